@@ -1,0 +1,7 @@
+pub mod Limits
+pub mod Events
+pub mod Raw
+pub mod Run
+pub mod Once
+pub mod Graph
+pub mod Text

@@ -1,0 +1,31 @@
+// Every refusal carries a number, a place and the layer that was called.
+ghost use mathlib.Core.Path.{_≡_};
+ghost use Prim.Native.Nat.{ℕ};
+ghost use Rattle.events.specs.declared.refusal.Layer.{Layer as LayerOf};
+
+// The layer whose call was refused.
+#[derive(Clone, Copy)]
+pub enum Layer {
+    Record,
+    Log,
+    Checker,
+}
+
+// One enum a layer implements this: each case with the values that its number and place are made of.
+pub trait Refusal {
+    ghost number: { Self → ℕ };
+
+    ghost place: { Self → ℕ };
+
+    ghost layer: { LayerOf };
+
+    fn number(&self) -> u8
+        ensures { λ r. ⌜ r ≡ number (now (self .entry)) ⌝ };
+
+    // An event number, or a byte of a log; 0 where the refusal names no place.
+    fn place(&self) -> usize
+        ensures { λ r. ⌜ r ≡ place (now (self .entry)) ⌝ };
+
+    fn layer(&self) -> Layer
+        ensures { λ r. ⌜ r ≡ layer ⌝ };
+}

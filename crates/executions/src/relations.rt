@@ -1,0 +1,29 @@
+// The two relations that every execution comes with: program order and reads-from.
+ghost use Rattle.std.specs.Orderings.{Decides};
+ghost use Rattle.events.specs.Graph.{Po, Rf, PoOrders, RfReads};
+use crate::execution::Execution;
+
+// Whether a comes before b in program order. Numbers outside the run do not.
+pub fn po<E: Execution>(x: &E, a: usize, b: usize) -> bool
+    ensures decides { λ r. ⌜ Decides r (Po (E·Execution .events (now (x .entry))) a b) ⌝ }
+    ensures orders { λ _. ⌜ PoOrders (E·Execution .events (now (x .entry))) ⌝ }
+{
+    let Ok(first) = x.event(a) else {
+        return false;
+    };
+    let Ok(second) = x.event(b) else {
+        return false;
+    };
+    a < b && first.thread == second.thread
+}
+
+// Whether r is a load that reads from w. Numbers outside the run do not.
+pub fn rf<E: Execution>(x: &E, w: usize, r: usize) -> bool
+    ensures decides { λ b. ⌜ Decides b (Rf (E·Execution .events (now (x .entry))) w r) ⌝ }
+    ensures reads { λ _. ⌜ RfReads (E·Execution .events (now (x .entry))) ⌝ }
+{
+    let Ok(load) = x.event(r) else {
+        return false;
+    };
+    load.kind.is_load() && load.writer as usize == w
+}

@@ -1,0 +1,5 @@
+pub mod Steps
+pub mod Links
+pub mod Outcomes
+pub mod Spelled
+pub mod Laws

@@ -1,0 +1,82 @@
+// A run that programs and tests share: the 2+2W test with a read on each side.
+ghost use Rattle.runlog.specs.Sample.{Spelled};
+
+// Two threads write the same two locations in opposite order, and each then reads what the other wrote last:
+//
+//     1  T1 W rel L1          4  T2 W rel L2
+//     2  T1 W rel L2          5  T2 W rel L1
+//     3  T1 R acq L2 from 4   6  T2 R acq L1 from 1
+//
+// These are the bytes of its log.
+pub fn two_plus_two_writes() -> [u8; 66]
+    ensures { λ r. ⌜ Spelled r ⌝ }
+{
+    [
+        8,
+        0,
+        1,
+        0,
+        1,
+        2,
+        2,
+        1,
+        0,
+        0, // 1
+        8,
+        0,
+        1,
+        0,
+        1,
+        2,
+        2,
+        2,
+        0,
+        0, // 2
+        8,
+        0,
+        1,
+        0,
+        1,
+        1,
+        1,
+        2,
+        4,
+        0, // 3
+        8,
+        0,
+        1,
+        0,
+        2,
+        2,
+        2,
+        2,
+        0,
+        0, // 4
+        8,
+        0,
+        1,
+        0,
+        2,
+        2,
+        2,
+        1,
+        0,
+        0, // 5
+        8,
+        0,
+        1,
+        0,
+        2,
+        1,
+        1,
+        1,
+        1,
+        0, // 6
+        4,
+        0,
+        2,
+        0,
+        6,
+        0, // end
+    ]
+}

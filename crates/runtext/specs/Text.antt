@@ -1,0 +1,29 @@
+-- The text of runs and logs.
+use mathlib.Core.List.{List, _++_}
+use Prim.Native.Nat.{ℕ}
+use lib.Chars.{codes}
+use lib.ListN.{length}
+use Rattle.std.specs.Joined.{joined}
+use Rattle.std.specs.Written.{decimal}
+use Rattle.std.specs.declared.result.Result.{Result}
+use Rattle.std.specs.declared.result.Result.the-variants.{Ok, Err}
+use Rattle.events.specs.Text.{eventText}
+use Rattle.events.specs.declared.event.Event.{Event}
+use Rattle.runlog.specs.Faults.{faultNumber, faultPlace}
+use Rattle.runlog.specs.declared.fault.LogFault.{LogFault}
+
+-- a line an event
+abbrev pub lineText : Event → List ℕ
+lineText e = eventText e ++ codes "\n"
+
+abbrev pub linesText : List Event → List ℕ
+linesText es = joined lineText es
+
+-- and then how many there are
+abbrev pub runText : List Event → List ℕ
+runText es = linesText es ++ (decimal (length es) ++ codes " events\n")
+
+-- the run, or the number and place of the refusal
+abbrev pub logText : Result (List Event) LogFault → List ℕ
+logText (Ok es) = runText es
+logText (Err f) = codes "log refused " ++ (decimal (faultNumber f) ++ (codes " " ++ (decimal (faultPlace f) ++ codes "\n")))
