@@ -4,4 +4,3 @@ pub mod Raw
 pub mod Run
 pub mod Once
 pub mod Graph
-pub mod Text

@@ -3,4 +3,3 @@ pub mod event;
 pub mod limits;
 pub mod raw;
 pub mod refusal;
-pub mod text;

@@ -2,7 +2,7 @@
 ghost use Prim.Native.Nat.{_≤_};
 ghost use lib.ListN.{length};
 ghost use Rattle.std.specs.Vec.{made};
-use runtext::log_text;
+use runtext::run::log_text;
 use std::io;
 use std::io::Read;
 

@@ -10,8 +10,12 @@ use Rattle.events.specs.Run.{at, noEvent}
 use Rattle.events.specs.declared.event.Event.{Event}
 use Rattle.runtext.specs.Text.{lineText, linesText}
 
-pub lines-more : (es : List Event) (i : ℕ) → i < length es → linesText (take i es) ++ lineText (at es (i + 1)) ≡ linesText (take (i + 1) es)
-lines-more es i within =
+-- text holds the lines of the first i events, and one line more is put after it
+pub lines-more : (es : List Event) (i : ℕ) (old new line : List ℕ) → i < length es → old ≡ linesText (take i es) → line ≡ lineText (at es (i + 1)) → new ≡ old ++ line → new ≡ linesText (take (i + 1) es)
+lines-more es i old new line within before here put =
     let same : i + 1 - 1 ≡ i = omega arith in
-    ap (λ k. linesText (take i es) ++ lineText (getD es k noEvent)) same
-    ∙ (joined-more lineText [] (take i es) (getD es i noEvent) ∙ ap linesText (sym (take-more es i noEvent within)))
+    let e = getD es i noEvent in
+    let is : line ≡ lineText e = here ∙ ap (λ k. lineText (getD es k noEvent)) same in
+    let join = joined-more lineText [] (take i es) e in
+    let more : take (i + 1) es ≡ take i es ++ (e ∷ []) = take-more es i noEvent within in
+    put ∙ ((λ k. before k ++ is k) ∙ (join ∙ ap linesText (sym more)))

@@ -1,1 +1,2 @@
+pub mod EventText
 pub mod Text

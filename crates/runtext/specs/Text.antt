@@ -7,7 +7,7 @@ use Rattle.std.specs.Joined.{joined}
 use Rattle.std.specs.Written.{decimal}
 use Rattle.std.specs.declared.result.Result.{Result}
 use Rattle.std.specs.declared.result.Result.the-variants.{Ok, Err}
-use Rattle.events.specs.Text.{eventText}
+use Rattle.runtext.specs.EventText.{eventText}
 use Rattle.events.specs.declared.event.Event.{Event}
 use Rattle.runlog.specs.Faults.{faultNumber, faultPlace}
 use Rattle.runlog.specs.declared.fault.LogFault.{LogFault}

@@ -3,7 +3,7 @@ use mathlib.Core.List.{_++_}
 use lib.Chars.{codes}
 use Rattle.std.proofs.shelf.Results.{made-weaker}
 use Rattle.std.specs.Written.{decimal}
-use Rattle.runtext.proofs.run_text.Needs as need
+use Rattle.runtext.proofs.run.run_text.Needs as need
 
 pub returns : need.returns
 returns g c =

@@ -6,7 +6,7 @@ use Rattle.std.specs.Written.{decimal}
 use Rattle.runlog.specs.Reading.{shown}
 use Rattle.runlog.proofs.Laws.{reads, refused}
 use Rattle.runtext.specs.Text.{runText, logText}
-use Rattle.runtext.proofs.log_text.Needs as need
+use Rattle.runtext.proofs.run.log_text.Needs as need
 
 pub returns-in-Ok : need.returns-in-Ok
 returns-in-Ok c =
