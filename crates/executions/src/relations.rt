@@ -17,13 +17,20 @@ pub fn po<E: Execution>(x: &E, a: usize, b: usize) -> bool
     a < b && first.thread == second.thread
 }
 
-// Whether r is a load that reads from w. Numbers outside the run do not.
-pub fn rf<E: Execution>(x: &E, w: usize, r: usize) -> bool
-    ensures decides { λ b. ⌜ Decides b (Rf (E·Execution .events (now (x .entry))) w r) ⌝ }
-    ensures reads { λ _. ⌜ RfReads (E·Execution .events (now (x .entry))) ⌝ }
+// Whether r is a load and w its writer.
+fn is_writer<E: Execution>(x: &E, w: usize, r: usize) -> bool
+    ensures { λ b. ⌜ Decides b (Rf (E·Execution .events (now (x .entry))) w r) ⌝ }
 {
     let Ok(load) = x.event(r) else {
         return false;
     };
     load.kind.is_load() && load.writer as usize == w
+}
+
+// Whether r reads from w. Numbers outside the run do not.
+pub fn rf<E: Execution>(x: &E, w: usize, r: usize) -> bool
+    ensures decides { λ b. ⌜ Decides b (Rf (E·Execution .events (now (x .entry))) w r) ⌝ }
+    ensures reads { λ _. ⌜ RfReads (E·Execution .events (now (x .entry))) ⌝ }
+{
+    is_writer(x, w, r)
 }

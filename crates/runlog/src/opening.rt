@@ -2,8 +2,8 @@
 ghost use mathlib.Core.Path.{_≡_};
 ghost use mathlib.Core.List.{[]};
 ghost use Rattle.events.specs.Once.{full-of};
-ghost use Rattle.runlog.specs.Reading.{reading, shown, Answers};
-ghost use Rattle.runlog.specs.Opening.{Holds, Opens, Refuses};
+ghost use Rattle.runlog.specs.Reading.{reading, Answers};
+ghost use Rattle.runlog.specs.Opening.{runOf, Holds, Opens, Refuses};
 use crate::fault::LogFault;
 use crate::layout::END_SIZE;
 use crate::layout::EVENT_SIZE;
@@ -17,7 +17,7 @@ use executions::fault::CheckerFault;
 impl<'a> Log<'a> {
     // The log of the run without events: what a caller holds before a log is opened into its place.
     pub fn empty() -> Log<'a>
-        ensures { λ r. ⌜ shown (now (r .bytes)) ≡ [] ⌝ }
+        ensures { λ r. ⌜ runOf r ≡ [] ⌝ }
     {
         Log {
             bytes: &[4, 0, 2, 0, 0, 0],
@@ -29,7 +29,7 @@ impl<'a> Log<'a> {
 pub fn open_log<'a>(bytes: &'a [u8], into: &mut Log<'a>) -> Result<(), LogFault>
     ensures answers { λ r. ⌜ Answers (reading (now (bytes .entry))) r ⌝ }
     ensures holds { λ r. ⌜ Holds (bytes .entry) (now (into .entry)) (now (into .exit)) r ⌝ }
-    ensures opens { λ r. ⌜ Opens (now (bytes .entry)) (shown (now (now (into .exit) .bytes))) r ⌝ }
+    ensures opens { λ r. ⌜ Opens (now (bytes .entry)) (runOf (now (into .exit))) r ⌝ }
     ensures refuses { λ r. ⌜ Refuses (now (bytes .entry)) r ⌝ }
 {
     match read(bytes) {
@@ -42,9 +42,9 @@ pub fn open_log<'a>(bytes: &'a [u8], into: &mut Log<'a>) -> Result<(), LogFault>
 }
 
 pub impl<'a> Execution for Log<'a> as LogExecution {
-    ghost events = { λ l. shown (l .bytes .now) };
+    ghost events = { runOf };
 
-    ghost full = { λ l. full-of (shown (l .bytes .now)) (l .full) };
+    ghost full = { λ l. full-of (runOf l) (l .full) };
 
     fn count(&self) -> usize {
         (self.bytes.len() - END_SIZE) / EVENT_SIZE
