@@ -1,9 +1,8 @@
 -- The laws of program order and of reads-from.
-use mathlib.Core.Path.{_≡_, refl, sym, _∙_}
+use mathlib.Core.Path.{refl, sym, _∙_}
 use mathlib.Core.List.{List}
-use Prim.Native.Nat.{ℕ}
 use native.Mathlib.Omega.{arith}
-use Rattle.events.specs.Run.{at, FullRun, Fits}
+use Rattle.events.specs.Run.{at, FullRun}
 use Rattle.events.specs.Graph.{PoOrders, RfReads}
 use Rattle.events.specs.declared.event.Event.{Event}
 

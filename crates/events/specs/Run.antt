@@ -1,9 +1,9 @@
 -- A run: a list of events, numbered from 1.
 use mathlib.Core.Path.{_≡_}
 use mathlib.Core.Bool.{true, false}
-use mathlib.Core.List.{List}
+use mathlib.Core.List.{List, _∷_}
 use mathlib.Core.Logic.{_≢_}
-use Prim.Native.Nat.{ℕ, _-_, _≤_}
+use Prim.Native.Nat.{ℕ, _≤_}
 use lib.ListN.{length, getD}
 use Rattle.events.specs.Limits.{maxEvents}
 use Rattle.events.specs.Events.{isLoad, isStore}
@@ -12,13 +12,13 @@ use Rattle.events.specs.declared.event.Kind.the-variants.{Fence}
 use Rattle.events.specs.declared.event.Mode.the-variants.{Relaxed}
 use Rattle.events.specs.declared.event.Event.{Event}
 
--- what stands for an event where there is none; it is no load and no store
+-- what stands where there is no event: no load and no store
 abbrev pub noEvent : Event
 noEvent = record { thread = 0; kind = Fence; mode = Relaxed; location = 0; writer = 0 }
 
--- the event with number i
+-- the event with number i, from 1 on
 abbrev pub at : List Event → ℕ → Event
-at es i = getD es (i - 1) noEvent
+at es i = getD (noEvent ∷ es) i noEvent
 
 -- i is the number of an event
 abbrev pub Within : List Event → ℕ → Type 0

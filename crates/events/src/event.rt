@@ -5,19 +5,19 @@ ghost use Rattle.events.specs.Events.{isLoad, isStore, isAccess, acquires, rel
 // What an event does. An update is a successful read-modify-write; a failed one is a read.
 #[derive(Clone, Copy)]
 pub enum Kind {
-    Read = 1,
-    Write = 2,
-    Update = 3,
-    Fence = 4,
+    Read,
+    Write,
+    Update,
+    Fence,
 }
 
 // How an event is ordered with others.
 #[derive(Clone, Copy)]
 pub enum Mode {
-    Relaxed = 0,
-    Acquire = 1,
-    Release = 2,
-    AcquireRelease = 3,
+    Relaxed,
+    Acquire,
+    Release,
+    AcquireRelease,
 }
 
 // The writer is the number of the store that a load reads from, and 0 where there is none.
@@ -31,7 +31,7 @@ pub struct Event {
 }
 
 impl Kind {
-    // The kind with this number, if any has it.
+    // The kind with this number, if there is one.
     pub fn from_number(n: u8) -> Option<Kind>
         ensures { λ r. ⌜ r ≡ kindOf n ⌝ }
     {
@@ -87,7 +87,7 @@ impl Kind {
 }
 
 impl Mode {
-    // The mode with this number, if any has it.
+    // The mode with this number, if there is one.
     pub fn from_number(n: u8) -> Option<Mode>
         ensures { λ r. ⌜ r ≡ modeOf n ⌝ }
     {
@@ -122,7 +122,7 @@ impl Mode {
 }
 
 impl Event {
-    // The writer, above the stored number.
+    // The number of the event that this one reads from; the stored number 0 means that there is none.
     pub fn reads_from(&self) -> Option<u16>
         ensures { λ r. ⌜ r ≡ writerOf (now (self .entry)) ⌝ }
     {
@@ -133,7 +133,7 @@ impl Event {
         }
     }
 
-    // Whether this event, the one with number `i`, can be what `load`, the one with number `r`, reads from.
+    // Whether this event, whose number is i, can be what `load`, whose number is r, reads from.
     pub fn fits(&self, i: usize, load: &Event, r: usize) -> bool
         ensures { λ b. ⌜ b ≡ fitting (now (self .entry)) i (now (load .entry)) r ⌝ }
     {

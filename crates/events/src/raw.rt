@@ -17,7 +17,7 @@ pub struct RawEvent {
     pub writer: u16,
 }
 
-// The field that rules the numbers out.
+// The field that rules the numbers out. Each has a number of its own, though a log does not tell them apart.
 #[derive(Clone, Copy)]
 pub enum FieldFault {
     Thread,

@@ -3,7 +3,7 @@ ghost use mathlib.Core.Path.{_≡_};
 ghost use Prim.Native.Nat.{ℕ};
 ghost use Rattle.events.specs.declared.refusal.Layer.{Layer as LayerOf};
 
-// The layer whose call was refused.
+// The layer whose call was refused. Records have no calls yet.
 #[derive(Clone, Copy)]
 pub enum Layer {
     Record,
@@ -11,7 +11,7 @@ pub enum Layer {
     Checker,
 }
 
-// One enum a layer implements this: each case with the values that its number and place are made of.
+// Each layer has one enum of its refusals, which implements this. A case carries what its place is made of.
 pub trait Refusal {
     ghost number: { Self → ℕ };
 

@@ -1,5 +1,4 @@
 // The refusals of the checker layer.
-ghost use mathlib.Core.Path.{_≡_};
 ghost use Rattle.events.specs.declared.refusal.Layer.the-variants.{Checker};
 ghost use Rattle.executions.specs.Faults.{faultNumber, faultPlace};
 use events::refusal::Layer;

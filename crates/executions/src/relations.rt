@@ -1,9 +1,10 @@
-// The two relations that every execution comes with: program order and reads-from.
+// The two relations that every execution comes with: program order and reads-from. Besides the answer, each function's
+// contract has a theorem about its relation, in a clause that does not look at the answer.
 ghost use Rattle.std.specs.Orderings.{Decides};
 ghost use Rattle.events.specs.Graph.{Po, Rf, PoOrders, RfReads};
 use crate::execution::Execution;
 
-// Whether a comes before b in program order. Numbers outside the run do not.
+// Whether a comes before b in program order. No pair with a number outside the run does.
 pub fn po<E: Execution>(x: &E, a: usize, b: usize) -> bool
     ensures decides { λ r. ⌜ Decides r (Po (E·Execution .events (now (x .entry))) a b) ⌝ }
     ensures orders { λ _. ⌜ PoOrders (E·Execution .events (now (x .entry))) ⌝ }
@@ -27,7 +28,7 @@ fn is_writer<E: Execution>(x: &E, w: usize, r: usize) -> bool
     load.kind.is_load() && load.writer as usize == w
 }
 
-// Whether r reads from w. Numbers outside the run do not.
+// Whether r reads from w. No pair with a number outside the run does.
 pub fn rf<E: Execution>(x: &E, w: usize, r: usize) -> bool
     ensures decides { λ b. ⌜ Decides b (Rf (E·Execution .events (now (x .entry))) w r) ⌝ }
     ensures reads { λ _. ⌜ RfReads (E·Execution .events (now (x .entry))) ⌝ }

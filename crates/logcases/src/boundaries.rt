@@ -1,18 +1,8 @@
 // Logs that are cut, logs as long as they may be, and every mode at every kind.
+use crate::longest::writes;
 use crate::outcome::opened;
 use runlog::sample::two_plus_two_writes;
-use std::alloc::AllocError;
-use std::alloc::Global;
 use std::test::*;
-
-// n writes by thread 1 at location 1.
-fn writes(heap: Global, n: usize) -> Result<Vec<u8>, AllocError> {
-    let mut bytes = Vec::new(heap);
-    for _ in 0..n {
-        bytes.extend_from_slice(&[8, 0, 1, 0, 1, 2, 0, 1, 0, 0])?;
-    }
-    Ok(bytes)
-}
 
 #[test]
 fn cut_at_every_byte() -> Result<(), Fail> {

@@ -5,6 +5,12 @@ mod asking;
 #[cfg(test)]
 mod boundaries;
 #[cfg(test)]
+mod hex;
+#[cfg(test)]
+mod longest;
+#[cfg(test)]
 mod outcome;
 #[cfg(test)]
 mod table;
+#[cfg(test)]
+mod texts;

@@ -1,4 +1,5 @@
 // Logs byte by byte.
+use crate::hex::bytes;
 use crate::outcome::opened;
 use std::alloc::AllocError;
 use std::alloc::Global;
@@ -59,25 +60,6 @@ a writer, then shape | 0800 0100 01010001 0000 0400 0200 0200                   
 a writer, then field | 0800 0100 01020001 0200 0800 0100 00020001 0000 0400 0200 0200     | refused 11 10
 a writer, then more  | 0800 0100 01010001 0000 0400 0200 0100 00                          | refused 10 16
 ";
-
-// The bytes that hexadecimal digits spell. Anything else is passed over.
-fn bytes(heap: Global, hex: &str) -> Result<Vec<u8>, AllocError> {
-    let mut out = Vec::new(heap);
-    let mut high = None;
-    for c in hex.chars() {
-        if let Some(digit) = c.to_digit(16) {
-            let digit = (digit & 15) as u8;
-            match high {
-                None => high = Some(digit),
-                Some(h) => {
-                    out.push(((h & 15) << 4) | digit)?;
-                    high = None;
-                }
-            }
-        }
-    }
-    Ok(out)
-}
 
 fn answer(heap: Global, bytes: &[u8]) -> Result<String, AllocError> {
     let (number, place) = opened(bytes);

@@ -9,18 +9,20 @@ use Rattle.std.specs.Results.{isOk}
 use Rattle.std.specs.declared.result.Result.{Result}
 use Rattle.std.specs.declared.result.Result.the-variants.{Ok, Err}
 use Rattle.events.specs.Limits.{maxEvents}
-use Rattle.events.specs.Raw.{Legal}
 use Rattle.events.specs.Run.{at, Within, Linked, FullRun}
 use Rattle.events.specs.declared.event.Event.{Event}
 use Rattle.runlog.specs.Layout.{byte}
 use Rattle.runlog.specs.Spelling.{spelling}
-use Rattle.runlog.specs.Reading.{Sound, eventAt, eventsOf, reading, shownBy, shown, Answers}
+use Rattle.runlog.specs.Reading.{eventAt, eventsOf, reading, shownBy, shown, Answers}
 use Rattle.runlog.specs.Opening.{Opens, Refuses}
-use Rattle.runlog.specs.FirstFault.{Closed, FirstFault}
+use Rattle.runlog.specs.FirstFault.{Sound, Closed, FirstFault}
 use Rattle.runlog.specs.declared.fault.LogFault.{LogFault}
 use Rattle.runlog.proofs.Steps.{length-events, at-events}
-use Rattle.runlog.proofs.Outcomes.{Outcome, outcome, fault-is, closed-is}
-use Rattle.runlog.proofs.Spelled.{length-spelling, sound-legal, closed-spelled, spelled-closed, spelled-events, spelled-linked}
+use Rattle.runlog.proofs.Outcomes.{outcome, fault-is, closed-is}
+use Rattle.runlog.proofs.Spelled.{sound-legal, closed-spelled, spelled-closed, spelled-events, spelled-linked}
+
+at-number : (s : List ℕ) (n i : ℕ) → 1 ≤ i → i ≤ n → at (eventsOf s n) i ≡ eventAt s (i - 1)
+at-number s n i low high = let same : i - 1 + 1 ≡ i = omega arith in rw same at (at-events s n (i - 1) (omega arith))
 
 closed-full : (s : List ℕ) (n : ℕ) → Closed s n → ((k : ℕ) → k < n → Linked (eventsOf s n) (k + 1)) → FullRun (eventsOf s n)
 closed-full s n c all =
@@ -32,7 +34,7 @@ closed-full s n c all =
       legal = λ i within.
           let low = within .0 in
           let high = within .1 in
-          rw (at-events s n (i - 1) i (omega arith) (omega arith)) (sound-legal s (i - 1) (c .begins .sound (i - 1) (omega arith)) .0);
+          rw (at-number s n i (omega arith) (omega arith)) (sound-legal s (i - 1) (c .begins .sound (i - 1) (omega arith)) .0);
       linked = λ i within.
           let low = within .0 in
           let high = within .1 in
@@ -111,7 +113,7 @@ module _ (s : List ℕ) (ok : isOk (reading s) ≡ true) where
       let high = within .1 in (
         c .begins .sound (i - 1) (omega arith),
         omega arith,
-        sym (ap (λ es. at es i) (o .3) ∙ at-events s n (i - 1) i (omega arith) (omega arith)),
+        sym (ap (λ es. at es i) (o .3) ∙ at-number s n i (omega arith) (omega arith)),
       )
 
 -- the answer of both passes, once more as the reading

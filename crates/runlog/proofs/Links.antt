@@ -3,14 +3,14 @@ use mathlib.Core.Path.{_≡_, refl, sym, _∙_}
 use mathlib.Core.Bool.{Bool, true, false, not, _&&_}
 use mathlib.Core.List.{List}
 use mathlib.Core.Logic.{⊎-elim}
-use Prim.Native.Nat.{ℕ, _+_, _≤_}
+use Prim.Native.Nat.{ℕ}
 use native.Mathlib.Omega.{arith}
 use lib.Dec.{eqb, leb}
 use lib.ListN.{length}
-use Rattle.std.proofs.shelf.Tests.{cases-eq, cases-bool, both-ways, eq-eqb, ne-eqb, and-parts, not-true, not-from-false, eqb-true, eqb-false, leb-true, le-leb, and-from, not-from-true}
+use Rattle.std.proofs.shelf.Tests.{cases-eq, cases-bool, both-ways, eq-eqb, ne-eqb, and-parts, not-true, not-from-false, eqb-true, eqb-false, leb-true, le-leb, and-from}
 use Rattle.std.specs.declared.option.Option.the-variants.{Some, None}
 use Rattle.events.specs.Events.{isLoad, isStore, writerOf, fitting}
-use Rattle.events.specs.Run.{at, Within, Fits, Linked}
+use Rattle.events.specs.Run.{at, Fits, Linked}
 use Rattle.events.specs.declared.event.Event.{Event}
 use Rattle.runlog.specs.Reading.{linked}
 

@@ -1,6 +1,6 @@
 -- Every log has one outcome: it is closed and linked, or it has a first fault; and the reading says which.
-use mathlib.Core.Path.{_≡_, refl, sym, ap, subst, _∙_}
-use mathlib.Core.Bool.{Bool, true, false, _&&_, cond}
+use mathlib.Core.Path.{_≡_, refl, ap, _∙_}
+use mathlib.Core.Bool.{true, false, _&&_, cond}
 use mathlib.Core.List.{List}
 use mathlib.Core.Logic.{_⊎_, _≢_, ⊎-elim}
 use Prim.Native.Nat.{ℕ, zero, suc, _+_, _-_, _≤_, _<_}
@@ -8,7 +8,7 @@ use native.Mathlib.Omega.{arith}
 use borrow.Author.Count.{below-more}
 use lib.Dec.{eqb}
 use lib.ListN.{length}
-use Rattle.std.proofs.shelf.Tests.{cases-eq, cases-bool, cases-lt, eq-eqb, ne-eqb, eqb-true, eqb-false, and-parts, and-from, cond-both, cond-true, cond-false, both-ways}
+use Rattle.std.proofs.shelf.Tests.{cases-bool, eq-eqb, ne-eqb, eqb-true, eqb-false, and-parts, and-from, cond-both, cond-true, cond-false, both-ways}
 use Rattle.std.proofs.shelf.Ways.{tells}
 use Rattle.std.specs.Results.{isOk}
 use Rattle.std.specs.declared.result.Result.{Result}
@@ -17,13 +17,13 @@ use Rattle.events.specs.Limits.{maxEvents}
 use Rattle.events.specs.Raw.{checked}
 use Rattle.events.specs.Run.{at, Linked}
 use Rattle.events.specs.declared.event.Event.{Event}
-use Rattle.runlog.specs.Layout.{word, isEvent, isEnd, start, rawAt}
-use Rattle.runlog.specs.Reading.{Sound, ended, scanned, eventsOf, linked, linkedUp, withWriters, reading}
-use Rattle.runlog.specs.FirstFault.{Begins, Ends, Closed, FirstFault}
-use Rattle.runlog.specs.FirstFault.FirstFault.{shape, trailing, full, field, writer}
+use Rattle.runlog.specs.Layout.{word, isEvent, isEnd, start, afterEnd, rawAt}
+use Rattle.runlog.specs.Reading.{ended, scanned, eventsOf, linked, linkedUp, withWriters, reading}
+use Rattle.runlog.specs.FirstFault.{Sound, Begins, Ends, Closed, FirstFault}
+use Rattle.runlog.specs.FirstFault.FirstFault.{shape, trailing, tooMany, field, writer}
 use Rattle.runlog.specs.declared.fault.LogFault.{LogFault}
 use Rattle.runlog.specs.declared.fault.LogFault.the-variants.{Shape, BadEvent, TooMany}
-use Rattle.runlog.proofs.Steps.{scanned-end, scanned-full, scanned-bad, scanned-more, links-bad, links-more, links-all}
+use Rattle.runlog.proofs.Steps.{legal-test, test-legal, scanned-end, scanned-full, scanned-bad, scanned-more, links-bad, links-more, links-all}
 use Rattle.runlog.proofs.Links.{linked-true, true-linked, linked-false, false-linked}
 
 -- what the records of a log come to
@@ -57,26 +57,26 @@ module _ (s : List ℕ) where
 
   ended-outcome : (n : ℕ) → Begins s n → isEvent s (start n) ≡ false → Scanned s (ended s n)
   ended-outcome n b none =
-      cond-both (isEnd s (start n) && eqb (word s (start n + 4)) n) (cond (eqb (start n + 6) (length s)) (Ok n) (Err (Shape (start n + 6)))) (Err (Shape (start n))) (Scanned s)
+      cond-both (isEnd s (start n) && eqb (word s (start n + 4)) n) (cond (eqb (afterEnd n) (length s)) (Ok n) (Err (Shape (afterEnd n)))) (Err (Shape (start n))) (Scanned s)
       (λ t.
-      cond-both (eqb (start n + 6) (length s)) (Ok n) (Err (Shape (start n + 6))) (Scanned s)
-      (λ e. record { begins = b; ends = ends-test n t; whole = eqb-true (start n + 6) (length s) e })
-      (λ ne. trailing b (ends-test n t) (eqb-false (start n + 6) (length s) ne)))
+      cond-both (eqb (afterEnd n) (length s)) (Ok n) (Err (Shape (afterEnd n))) (Scanned s)
+      (λ e. record { begins = b; ends = ends-test n t; whole = eqb-true (afterEnd n) (length s) e })
+      (λ ne. trailing b (ends-test n t) (eqb-false (afterEnd n) (length s) ne)))
       (λ f. shape b none (λ e. both-ways _ f (test-ends n e)))
 
   -- the records in turn come to an outcome
   scanned-outcome : (k n : ℕ) → n + k ≡ maxEvents → Begins s n → Scanned s (scanned k s n)
   scanned-outcome zero n all b =
       ⊎-elim
-      (λ is. let last : n ≡ maxEvents = omega arith in rw (scanned-full s n 0 refl is, last) (full (rw last at b) (rw last at is)))
+      (λ is. let last : n ≡ maxEvents = omega arith in rw (scanned-full s n 0 refl is, last) (tooMany (rw last at b) (rw last at is)))
       (λ none. rw (scanned-end s n 0 none) (ended-outcome n b none))
       (cases-bool (isEvent s (start n)))
   scanned-outcome (suc k) n all b =
       ⊎-elim
       (λ is.
       ⊎-elim
-      (λ good. rw (scanned-more s n (suc k) k refl is good) (scanned-outcome k (n + 1) (omega arith) (begins-more n b (omega arith) (record { event = is; legal = good }))))
-      (λ bad. rw (scanned-bad s n (suc k) k refl is bad) (field b (omega arith) is bad))
+      (λ good. rw (scanned-more s n (suc k) k refl is good) (scanned-outcome k (n + 1) (omega arith) (begins-more n b (omega arith) (record { event = is; legal = test-legal s (start n) good }))))
+      (λ bad. rw (scanned-bad s n (suc k) k refl is bad) (field b (omega arith) is (λ l. both-ways _ bad (legal-test s (start n) l))))
       (cases-bool (isOk (checked (rawAt s (start n))))))
       (λ none. rw (scanned-end s n (suc k) none) (ended-outcome n b none))
       (cases-bool (isEvent s (start n)))
@@ -112,7 +112,7 @@ module _ (s : List ℕ) where
       let here = b .sound n (omega arith) in
       let before : Begins s n = record { few = omega arith; sound = λ k h. b .sound k (omega arith) } in
       let next : n + 1 ≡ suc n = omega arith in
-      scanned-past n before ∙ (scanned-more s n (maxEvents - n) (maxEvents - suc n) (omega arith) (here .event) (here .legal) ∙ ap (scanned (maxEvents - suc n) s) next)
+      scanned-past n before ∙ (scanned-more s n (maxEvents - n) (maxEvents - suc n) (omega arith) (here .event) (legal-test s (start n) (here .legal)) ∙ ap (scanned (maxEvents - suc n) s) next)
 
   -- so are linked events
   links-past : (n i : ℕ) → i ≤ n → ((j : ℕ) → j < i → Linked (eventsOf s n) (j + 1)) → linkedUp n (eventsOf s n) 0 ≡ linkedUp (n - i) (eventsOf s n) i
@@ -130,11 +130,11 @@ module _ (s : List ℕ) where
   ended-shape n never =
       ⊎-elim (λ t. absurd (never (ends-test n t))) (λ f. cond-false _ _ _ f) (cases-bool (isEnd s (start n) && eqb (word s (start n + 4)) n))
 
-  ended-trailing : (n : ℕ) → Ends s n → start n + 6 ≢ length s → ended s n ≡ Err (Shape (start n + 6))
-  ended-trailing n e ne = cond-true _ _ _ (test-ends n e) ∙ cond-false _ _ _ (ne-eqb (start n + 6) (length s) ne)
+  ended-trailing : (n : ℕ) → Ends s n → afterEnd n ≢ length s → ended s n ≡ Err (Shape (afterEnd n))
+  ended-trailing n e ne = cond-true _ _ _ (test-ends n e) ∙ cond-false _ _ _ (ne-eqb (afterEnd n) (length s) ne)
 
-  ended-whole : (n : ℕ) → Ends s n → start n + 6 ≡ length s → ended s n ≡ Ok n
-  ended-whole n e is = cond-true _ _ _ (test-ends n e) ∙ cond-true _ _ _ (eq-eqb (start n + 6) (length s) is)
+  ended-whole : (n : ℕ) → Ends s n → afterEnd n ≡ length s → ended s n ≡ Ok n
+  ended-whole n e is = cond-true _ _ _ (test-ends n e) ∙ cond-true _ _ _ (eq-eqb (afterEnd n) (length s) is)
 
   closed-scanned : (n : ℕ) → Closed s n → scanned maxEvents s 0 ≡ Ok n
   closed-scanned n c = ended-here n (c .begins) (end-no-event n (c .ends)) ∙ ended-whole n (c .ends) (c .whole)
@@ -145,9 +145,10 @@ module _ (s : List ℕ) where
 
   pub fault-is : {f : LogFault} → FirstFault s f → reading s ≡ Err f
   fault-is (shape {n} b none never) = scanned-reading (Err (Shape (start n))) (ended-here n b none ∙ ended-shape n never)
-  fault-is (trailing {n} b e ne) = scanned-reading (Err (Shape (start n + 6))) (ended-here n b (end-no-event n e) ∙ ended-trailing n e ne)
-  fault-is (full b is) = scanned-reading (Err (TooMany (start maxEvents))) (scanned-past maxEvents b ∙ scanned-full s maxEvents 0 refl is)
-  fault-is (field {n} b less is bad) =
+  fault-is (trailing {n} b e ne) = scanned-reading (Err (Shape (afterEnd n))) (ended-here n b (end-no-event n e) ∙ ended-trailing n e ne)
+  fault-is (tooMany b is) = scanned-reading (Err (TooMany (start maxEvents))) (scanned-past maxEvents b ∙ scanned-full s maxEvents 0 refl is)
+  fault-is (field {n} b less is never) =
+      let bad = ⊎-elim (λ t. absurd (never (test-legal s (start n) t))) (λ f. f) (cases-bool (isOk (checked (rawAt s (start n))))) in
       scanned-reading (Err (BadEvent (start n))) (scanned-past n b ∙ scanned-bad s n (maxEvents - n) (maxEvents - (n + 1)) (omega arith) is bad)
   fault-is (writer {n} {k} c within before never) =
       let es = eventsOf s n in

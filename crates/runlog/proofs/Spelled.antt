@@ -1,6 +1,6 @@
 -- Which byte of a spelling stands where, and that a closed log is a spelling and a spelling is a closed log.
 use mathlib.Core.Path.{_≡_, refl, sym, ap, subst, _∙_}
-use mathlib.Core.Bool.{true, false, _&&_}
+use mathlib.Core.Bool.{true, _&&_}
 use mathlib.Core.List.{List, [], _∷_, _++_, append-assoc}
 use mathlib.Core.Logic.{⊎-elim}
 use Prim.Native.Nat.{ℕ, zero, suc, _+_, _-_, _*_, _/_, _%_, _≤_, _<_}
@@ -11,19 +11,17 @@ use Rattle.std.proofs.shelf.Counted.{fill-by-all}
 use Rattle.std.proofs.shelf.Lists.{length-append, getD-append-left, getD-append-right, ext-getD}
 use Rattle.std.proofs.shelf.Tests.{cases-lt, and-parts, and-from, leb-true, eqb-true, le-leb, eq-eqb}
 use Rattle.std.specs.Joined.{joined}
-use Rattle.std.specs.Results.{isOk}
-use Rattle.std.specs.declared.result.Result.{Result}
-use Rattle.std.specs.declared.result.Result.the-variants.{Ok, Err}
+use Rattle.std.specs.declared.result.Result.the-variants.{Ok}
 use Rattle.events.specs.Raw.{Legal, rawOf, checked}
 use Rattle.events.specs.Run.{at, noEvent, Linked, FullRun}
 use Rattle.events.specs.declared.event.Event.{Event}
-use Rattle.events.specs.declared.raw.FieldFault.{FieldFault}
-use Rattle.events.proofs.Fields.{checked-legal, legal-checked}
-use Rattle.runlog.specs.Layout.{byte, word, recordAt, isEvent, isEnd, start, rawAt}
+use Rattle.events.proofs.Fields.{legal-checked}
+use Rattle.events.proofs.Numbers.{at-next}
+use Rattle.runlog.specs.Layout.{byte, word, recordAt, start, rawAt}
 use Rattle.runlog.specs.Spelling.{eventBytes, endBytes, spelling}
-use Rattle.runlog.specs.Reading.{Sound, eventOr, eventAt, eventsOf}
-use Rattle.runlog.specs.FirstFault.{Begins, Ends, Closed}
-use Rattle.runlog.proofs.Steps.{length-events, nth-events}
+use Rattle.runlog.specs.Reading.{eventOr, eventAt, eventsOf}
+use Rattle.runlog.specs.FirstFault.{Sound, Ends, Closed}
+use Rattle.runlog.proofs.Steps.{length-events, nth-events, sound-event}
 
 -- what holds at each of six places, and of ten
 six : (P : ℕ → Type 0) → P 0 → P 1 → P 2 → P 3 → P 4 → P 5 → (j : ℕ) → j < 6 → P j
@@ -68,13 +66,8 @@ end-at es j =
     getD-append-right (joined eventBytes es) (endBytes (length es)) (10 * length es) (10 * length es + j) 0 (length-body es) (omega arith)
     ∙ ap (λ p. getD (endBytes (length es)) p 0) past
 
--- a result that is no error is the event in it
-ok-event : (r : Result Event FieldFault) → isOk r ≡ true → r ≡ Ok (eventOr r)
-ok-event (Ok e) h = refl
-ok-event (Err f) h = let z : _≡_ {A = ℕ} 0 1 = cc in absurd (omega arith)
-
 pub sound-legal : (s : List ℕ) (k : ℕ) → Sound s k → Legal (eventAt s k) × (rawOf (eventAt s k) ≡ rawAt s (start k))
-sound-legal s k here = let x = rawAt s (start k) in checked-legal x (eventAt s k) (ok-event (checked x) (here .legal))
+sound-legal s k here = let l = here .legal in rw (sound-event s k here) (l .1, l .2)
 
 -- what the header of a record says of its four bytes
 record Header (s : List ℕ) (p size kind : ℕ) : Type 0 where
@@ -187,7 +180,7 @@ module _ (es : List Event) (full : FullRun es) (s : List ℕ) (is : s ≡ spelli
       λ i. record { thread = sym (b 4 (omega arith)) i; kind = sym (b 5 (omega arith)) i; mode = sym (b 6 (omega arith)) i; location = sym (b 7 (omega arith)) i; writer = writer i }
 
   legal : (k : ℕ) → k < length es → Legal (getD es k noEvent)
-  legal k within = let next : k + 1 - 1 ≡ k = omega arith in rw next at (full .legal (k + 1) (omega arith, omega arith))
+  legal k within = rw (at-next es k) at (full .legal (k + 1) (omega arith, omega arith))
 
   checked-back : (k : ℕ) → k < length es → checked (rawAt s (start k)) ≡ Ok (getD es k noEvent)
   checked-back k within = legal-checked (rawAt s (start k)) (getD es k noEvent) (legal k within) (raw-back k within)
@@ -202,7 +195,7 @@ module _ (es : List Event) (full : FullRun es) (s : List ℕ) (is : s ≡ spelli
           kind-low = event-byte k 2 within (omega arith);
           kind-high = ap (byte s) (omega arith) ∙ event-byte k 3 within (omega arith);
         });
-        legal = ap isOk (checked-back k within);
+        legal = (getD es k noEvent, legal k within, raw-back k within);
       }
 
   ends-back : Ends s (length es)

@@ -1,5 +1,5 @@
 -- The two passes of the reading, one step at a time.
-use mathlib.Core.Path.{_≡_, refl, sym, ap, _∙_}
+use mathlib.Core.Path.{_≡_, refl, ap, _∙_}
 use mathlib.Core.Bool.{Bool, true, false, _&&_}
 use mathlib.Core.List.{List}
 use Prim.Native.Nat.{ℕ, zero, suc, _+_, _-_, _≤_, _<_}
@@ -10,13 +10,18 @@ use Rattle.std.proofs.shelf.Counted.{length-map-counting, getD-map-counting}
 use Rattle.std.proofs.shelf.Tests.{le-leb, lt-leb}
 use Rattle.std.specs.declared.option.Option.the-variants.{Some}
 use Rattle.std.specs.Results.{isOk}
+use Rattle.std.specs.declared.result.Result.{Result}
 use Rattle.std.specs.declared.result.Result.the-variants.{Ok, Err}
 use Rattle.events.specs.Events.{isLoad, writerOf, fitting}
 use Rattle.events.specs.Raw.{checked}
 use Rattle.events.specs.Run.{at, noEvent}
 use Rattle.events.specs.declared.event.Event.{Event}
+use Rattle.events.specs.declared.raw.FieldFault.{FieldFault}
+use Rattle.events.proofs.Fields.{checked-legal, legal-checked}
+use Rattle.events.proofs.Numbers.{at-next}
 use Rattle.runlog.specs.Layout.{isEvent, start, rawAt}
-use Rattle.runlog.specs.Reading.{ended, scanned, eventAt, eventsOf, linked, linkedUp}
+use Rattle.runlog.specs.Reading.{ended, scanned, eventOr, eventAt, eventsOf, linked, linkedUp}
+use Rattle.runlog.specs.FirstFault.{LegalAt, Sound}
 use Rattle.runlog.specs.declared.fault.LogFault.the-variants.{BadEvent, TooMany}
 
 module _ (s : List ℕ) (n : ℕ) where
@@ -47,8 +52,26 @@ length-events s n = length-map-counting (eventAt s) 0 n
 pub nth-events : (s : List ℕ) (n k : ℕ) → k < n → getD (eventsOf s n) k noEvent ≡ eventAt s k
 nth-events s n k within = getD-map-counting (eventAt s) 0 n k k noEvent within (omega arith)
 
-pub at-events : (s : List ℕ) (n k i : ℕ) → i ≡ k + 1 → k < n → at (eventsOf s n) i ≡ eventAt s k
-at-events s n k i next within = let same : i - 1 ≡ k = omega arith in rw same (nth-events s n k within)
+pub at-events : (s : List ℕ) (n k : ℕ) → k < n → at (eventsOf s n) (k + 1) ≡ eventAt s k
+at-events s n k within = at-next (eventsOf s n) k ∙ nth-events s n k within
+
+-- the test of the fields says whether the record's numbers are those of a legal event
+pub legal-test : (s : List ℕ) (p : ℕ) → LegalAt s p → isOk (checked (rawAt s p)) ≡ true
+legal-test s p here = ap isOk (legal-checked (rawAt s p) (here .0) (here .1) (here .2))
+
+pub test-legal : (s : List ℕ) (p : ℕ) → isOk (checked (rawAt s p)) ≡ true → LegalAt s p
+test-legal s p ok = let e = eventOr (checked (rawAt s p)) in let is = checked-legal (rawAt s p) e (ok-event (checked (rawAt s p)) ok) in (e, is .0, is .1)
+  where
+    ok-event : (r : Result Event FieldFault) → isOk r ≡ true → r ≡ Ok (eventOr r)
+    ok-event (Ok e) h = refl
+    ok-event (Err f) h = let z : _≡_ {A = ℕ} 0 1 = cc in absurd (omega arith)
+
+-- and a sound record holds its event
+pub sound-checked : (s : List ℕ) (k : ℕ) (here : Sound s k) → checked (rawAt s (start k)) ≡ Ok (here .legal .0)
+sound-checked s k here = let l = here .legal in legal-checked (rawAt s (start k)) (l .0) (l .1) (l .2)
+
+pub sound-event : (s : List ℕ) (k : ℕ) (here : Sound s k) → eventAt s k ≡ here .legal .0
+sound-event s k here = ap eventOr (sound-checked s k here)
 
 -- e, which is event i of n, and its writer w
 module _ (s : List ℕ) (n i : ℕ) (e : Event) (w : ℕ) (some : writerOf e ≡ Some w) where
@@ -66,7 +89,7 @@ module _ (s : List ℕ) (n i : ℕ) (e : Event) (w : ℕ) (some : writerOf e ≡
       nothing false = refl
 
   pub linked-in : 1 ≤ w → w ≤ n → linked (eventsOf s n) i e ≡ (isLoad (e .kind) && fitting (eventAt s (w - 1)) w e i)
-  linked-in low high = linked-some ∙ rw (le-leb w n high, at-events s n (w - 1) w (omega arith) (omega arith)) refl
+  linked-in low high = linked-some ∙ let same : w - 1 + 1 ≡ w = omega arith in rw (le-leb w n high, rw same at (at-events s n (w - 1) (omega arith))) refl
 
 -- the writers in turn
 module _ (es : List Event) (i k left : ℕ) (more : k ≡ suc left) where

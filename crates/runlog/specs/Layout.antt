@@ -13,9 +13,10 @@ byte s p = getD s p 0
 abbrev pub word : List ℕ → ℕ → ℕ
 word s p = byte s p + 256 * byte s (p + 1)
 
--- a record of this length and kind begins at p, with all its bytes
+-- a record begins at p, with all its bytes: a field of two bytes that holds how many bytes follow it, a field of two bytes
+-- that holds the record's kind, and the rest
 abbrev pub recordAt : List ℕ → ℕ → ℕ → ℕ → Bool
-recordAt s p size kind = leb (p + 2 + size) (length s) && (eqb (word s p) size && eqb (word s (p + 2)) kind)
+recordAt s p long kind = leb (p + 2 + long) (length s) && (eqb (word s p) long && eqb (word s (p + 2)) kind)
 
 abbrev pub isEvent : List ℕ → ℕ → Bool
 isEvent s p = recordAt s p 8 1
@@ -26,6 +27,10 @@ isEnd s p = recordAt s p 4 2
 -- an event record takes 10 bytes, so the record after n of them begins here
 abbrev pub start : ℕ → ℕ
 start n = 10 * n
+
+-- the end record takes 6 bytes, so the first byte after it, where it follows n event records, is this one
+abbrev pub afterEnd : ℕ → ℕ
+afterEnd n = start n + 6
 
 -- the numbers in the event record that begins at p
 abbrev pub rawAt : List ℕ → ℕ → RawEvent

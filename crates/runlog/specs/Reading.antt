@@ -1,6 +1,6 @@
 -- The reading of a log: the run that its bytes spell, or the first fault.
 use mathlib.Core.Path.{_≡_}
-use mathlib.Core.Bool.{Bool, true, not, _&&_, cond}
+use mathlib.Core.Bool.{Bool, not, _&&_, cond}
 use mathlib.Core.List.{List, [], map}
 use Prim.Native.Nat.{ℕ, zero, suc, _+_}
 use lib.Dec.{eqb, leb}
@@ -17,7 +17,7 @@ use Rattle.events.specs.Raw.{checked}
 use Rattle.events.specs.Run.{at, noEvent}
 use Rattle.events.specs.declared.event.Event.{Event}
 use Rattle.events.specs.declared.raw.FieldFault.{FieldFault}
-use Rattle.runlog.specs.Layout.{word, isEvent, isEnd, start, rawAt}
+use Rattle.runlog.specs.Layout.{word, isEvent, isEnd, start, afterEnd, rawAt}
 use Rattle.runlog.specs.declared.fault.LogFault.{LogFault}
 use Rattle.runlog.specs.declared.fault.LogFault.the-variants.{Shape, BadEvent, TooMany}
 
@@ -25,7 +25,7 @@ use Rattle.runlog.specs.declared.fault.LogFault.the-variants.{Shape, BadEvent,
 abbrev pub ended : List ℕ → ℕ → Result ℕ LogFault
 ended s n =
     cond (isEnd s (start n) && eqb (word s (start n + 4)) n)
-    (cond (eqb (start n + 6) (length s)) (Ok n) (Err (Shape (start n + 6))))
+    (cond (eqb (afterEnd n) (length s)) (Ok n) (Err (Shape (afterEnd n))))
     (Err (Shape (start n)))
 
 -- the records in turn, after n events and with at most k more to come: how many events there are, or the first fault
@@ -35,11 +35,6 @@ scanned (suc k) s n =
     cond (isEvent s (start n))
     (cond (isOk (checked (rawAt s (start n)))) (scanned k s (n + 1)) (Err (BadEvent (start n))))
     (ended s n)
-
--- the record after k others is that of an event, with its fields in their ranges
-pub record Sound (s : List ℕ) (k : ℕ) : Type 0 where
-  pub event : isEvent s (start k) ≡ true
-  pub legal : isOk (checked (rawAt s (start k))) ≡ true
 
 abbrev pub eventOr : Result Event FieldFault → Event
 eventOr (Ok e) = e

@@ -1,5 +1,4 @@
 // The refusals of the log layer. Each place is a byte of the log, counted from 0.
-ghost use mathlib.Core.Path.{_≡_};
 ghost use Rattle.events.specs.declared.refusal.Layer.the-variants.{Log as LogLayer};
 ghost use Rattle.runlog.specs.Faults.{faultNumber, faultPlace};
 use events::refusal::Layer;
@@ -7,7 +6,7 @@ use events::refusal::Refusal;
 
 #[derive(Clone, Copy)]
 pub enum LogFault {
-    // Neither an event record nor a right end record stands here, or bytes that follow the end do.
+    // What begins here is neither an event record nor an end record that counts right; or it follows the end record.
     Shape(usize),
     // The event whose record begins here has a field out of its range, or a writer that it may not have.
     BadEvent(usize),

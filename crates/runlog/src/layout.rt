@@ -1,4 +1,6 @@
-// The byte layout of a log, as questions to its bytes.
+// The byte layout of a log, as questions to its bytes. Every record begins with two numbers of two bytes, the low byte
+// first: its length, which counts the bytes after itself, and its kind. An event record goes on with thread, kind, mode and
+// location, a byte each, and the writer in two bytes; the end record with the number of events in two bytes.
 ghost use mathlib.Core.Path.{_≡_};
 ghost use mathlib.Core.Bool.{_&&_};
 ghost use lib.Dec.{eqb};
@@ -22,13 +24,14 @@ fn word_at(s: &[u8], p: usize) -> u16
 }
 
 // Whether a record of this length and kind begins at p, with all its bytes.
-fn is_record(s: &[u8], p: usize, size: u16, kind: u16) -> bool
-    requires { ⌜ p ≤ 2 ^ 32 ⌝ ∗ ⌜ 2 ≤ size ⌝ }
-    ensures { λ r. ⌜ r ≡ recordAt (now (s .entry)) p size kind ⌝ }
+fn is_record(s: &[u8], p: usize, long: u16, kind: u16) -> bool
+    requires { ⌜ p ≤ 2 ^ 32 ⌝ ∗ ⌜ 2 ≤ long ⌝ }
+    ensures { λ r. ⌜ r ≡ recordAt (now (s .entry)) p long kind ⌝ }
 {
-    p + 2 + size as usize <= s.len() && word_at(s, p) == size && word_at(s, p + 2) == kind
+    p + 2 + long as usize <= s.len() && word_at(s, p) == long && word_at(s, p + 2) == kind
 }
 
+// Whether an event record begins at p.
 pub(crate) fn is_event(s: &[u8], p: usize) -> bool
     requires { ⌜ p ≤ 2 ^ 32 ⌝ }
     ensures { λ r. ⌜ r ≡ isEvent (now (s .entry)) p ⌝ }

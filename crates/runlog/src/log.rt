@@ -6,6 +6,8 @@ ghost use Rattle.std.specs.Results.{isOk};
 ghost use Rattle.events.specs.Run.{FullRun};
 ghost use Rattle.runlog.specs.Reading.{reading, shown};
 
+// `opens` says that the bytes read as a run, and `full` that this run is full. The second is truncated, since a ghost
+// field's fact must be seen to hold in one way at most; `full-of` takes it out again.
 #[derive(Drop)]
 pub struct Log<'a> {
     pub(crate) bytes: &'a [u8],

@@ -1,15 +1,15 @@
 // Opening a log, and what an opened log answers.
 ghost use mathlib.Core.Path.{_≡_};
 ghost use mathlib.Core.List.{[]};
-ghost use Rattle.events.specs.Once.{full-of};
+ghost use Rattle.events.specs.OneProof.{full-of};
 ghost use Rattle.runlog.specs.Reading.{reading, Answers};
 ghost use Rattle.runlog.specs.Opening.{runOf, Holds, Opens, Refuses};
 use crate::fault::LogFault;
 use crate::layout::END_SIZE;
 use crate::layout::EVENT_SIZE;
 use crate::log::Log;
+use crate::passes::check_log;
 use crate::passes::event_at;
-use crate::passes::read;
 use events::event::Event;
 use executions::execution::Execution;
 use executions::fault::CheckerFault;
@@ -32,7 +32,7 @@ pub fn open_log<'a>(bytes: &'a [u8], into: &mut Log<'a>) -> Result<(), LogFault>
     ensures opens { λ r. ⌜ Opens (now (bytes .entry)) (runOf (now (into .exit))) r ⌝ }
     ensures refuses { λ r. ⌜ Refuses (now (bytes .entry)) r ⌝ }
 {
-    match read(bytes) {
+    match check_log(bytes) {
         Ok(()) => {
             *into = Log { bytes };
             Ok(())

@@ -1,10 +1,10 @@
-// The two passes over the bytes of a log: the records in turn, then the writers in turn.
+// The two passes over the bytes of a log: the records in turn, then the writers in turn. Records are counted from 0 and
+// events from 1: the record after k others is that of event k + 1.
 ghost use mathlib.Core.Path.{_≡_};
-ghost use mathlib.Core.Bool.{true};
 ghost use Prim.Native.Nat.{ℕ, _+_, _<_, _≤_};
-ghost use lib.ListN.{length};
 ghost use Rattle.events.specs.Limits.{maxEvents};
-ghost use Rattle.runlog.specs.Reading.{Sound, ended, scanned, eventAt, eventsOf, linked, linkedUp, reading, Answers};
+ghost use Rattle.runlog.specs.FirstFault.{Sound};
+ghost use Rattle.runlog.specs.Reading.{ended, scanned, eventAt, eventsOf, linked, linkedUp, reading, Answers};
 use crate::fault::LogFault;
 use crate::layout::END_SIZE;
 use crate::layout::EVENT_SIZE;
@@ -14,7 +14,7 @@ use crate::layout::raw_at;
 use events::event::Event;
 use events::limits::MAX_EVENTS;
 
-// What follows the last event record.
+// The number n of events once more, if their end record comes next and ends the log.
 fn end_of(s: &[u8], n: usize) -> Result<usize, LogFault>
     requires { ⌜ n ≤ maxEvents ⌝ }
     ensures { λ r. ⌜ r ≡ ended (now (s .entry)) n ⌝ }
@@ -29,7 +29,7 @@ fn end_of(s: &[u8], n: usize) -> Result<usize, LogFault>
     Ok(n)
 }
 
-// How many events the log has, or the first fault of its records.
+// First pass: how many events the log has, or the first fault of its records.
 fn scan(s: &[u8]) -> Result<usize, LogFault>
     ensures { λ r. ⌜ r ≡ scanned maxEvents (now (s .entry)) 0 ⌝ }
 {
@@ -75,8 +75,8 @@ fn is_linked(s: &[u8], n: usize, k: usize) -> bool
     e.kind.is_load() && event_at(s, w - 1).fits(w, &e, k + 1)
 }
 
-// Nothing, or the first event with a writer that it may not have.
-fn link(s: &[u8], n: usize) -> Result<(), LogFault>
+// Second pass: nothing, or the first event with a writer that it may not have.
+fn check_writers(s: &[u8], n: usize) -> Result<(), LogFault>
     requires bound { ⌜ n ≤ maxEvents ⌝ }
     requires sound { ⌜ ((k : ℕ) → k < n → Sound (now s) k) ⌝ }
     ensures { λ r. ⌜ Answers (linkedUp n (eventsOf (now (s .entry)) n) 0) r ⌝ }
@@ -89,12 +89,12 @@ fn link(s: &[u8], n: usize) -> Result<(), LogFault>
     Ok(())
 }
 
-// Nothing where the bytes spell a full run, or the first fault.
-pub(crate) fn read(s: &[u8]) -> Result<(), LogFault>
+// Both passes: nothing where the bytes spell a full run, or the first fault.
+pub(crate) fn check_log(s: &[u8]) -> Result<(), LogFault>
     ensures { λ r. ⌜ Answers (reading (now (s .entry))) r ⌝ }
 {
     match scan(s) {
-        Ok(n) => link(s, n),
+        Ok(n) => check_writers(s, n),
         Err(fault) => Err(fault),
     }
 }

@@ -1,7 +1,8 @@
-// A run that programs and tests share: the 2+2W test with a read on each side.
+// A sample run, the 2+2W test with a read on each side, and the bytes of its log.
 ghost use Rattle.runlog.specs.Sample.{Spelled};
 
-// Two threads write the same two locations in opposite order, and each then reads what the other wrote last:
+// Two threads write the same two locations in opposite order, and each then reads, at the location that it wrote last, what
+// the other wrote there:
 //
 //     1  T1 W rel L1          4  T2 W rel L2
 //     2  T1 W rel L2          5  T2 W rel L1

@@ -33,7 +33,7 @@ pub fn mode_word(mode: Mode) -> &'static str
     }
 }
 
-// A fence has no location to show, and only an event that reads has a writer.
+// A fence has no location to show. In a full run only loads have a writer.
 pub fn event_text(heap: Global, e: &Event) -> Result<String, AllocError>
     ensures { λ r. ⌜ made r (λ t. string-bytes t ≡ eventText (now (e .entry))) ⌝ }
 {

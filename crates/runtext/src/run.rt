@@ -1,14 +1,9 @@
 // A run as text, a line an event and then how many there are; and so the run of a log.
 ghost use mathlib.Core.Path.{_≡_};
-ghost use mathlib.Core.List.{_++_};
-ghost use Prim.Native.Nat.{_<_, _≤_};
-ghost use lib.Chars.{codes};
-ghost use lib.ListN.{length, take};
 ghost use Rattle.std.specs.Of.String.{string-bytes};
 ghost use Rattle.std.specs.Vec.{made};
 ghost use Rattle.events.specs.Run.{at, Within};
-ghost use Rattle.runlog.specs.Reading.{reading};
-ghost use Rattle.runtext.specs.Text.{lineText, linesText, runText, logText};
+ghost use Rattle.runtext.specs.Text.{lineText, linesText, runText, Tells};
 use crate::event::event_text;
 use events::refusal::Refusal;
 use executions::execution::Execution;
@@ -52,7 +47,7 @@ pub fn run_text<E: Execution>(heap: Global, x: &E) -> Result<String, AllocError>
 
 // The text of a log: its run, or why it is refused.
 pub fn log_text(heap: Global, bytes: &[u8]) -> Result<String, AllocError>
-    ensures { λ r. ⌜ made r (λ t. string-bytes t ≡ logText (reading (now (bytes .entry)))) ⌝ }
+    ensures { λ r. ⌜ made r (λ t. Tells (now (bytes .entry)) (string-bytes t)) ⌝ }
 {
     let mut log = Log::empty();
     match open_log(bytes, &mut log) {

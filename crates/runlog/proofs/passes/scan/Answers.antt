@@ -1,13 +1,13 @@
-use mathlib.Core.Path.{_≡_, sym, ap, _∙_}
+use mathlib.Core.Path.{_≡_, sym, _∙_}
 use mathlib.Core.Bool.{true, false}
-use Prim.Native.Nat.{suc, _+_, _-_}
+use Prim.Native.Nat.{_+_, _-_}
 use native.Mathlib.Omega.{arith}
 use borrow.Author.Needs.{needs}
 use Rattle.std.proofs.shelf.Ways.{tells}
 use Rattle.std.specs.Results.{isOk}
 use Rattle.events.specs.Raw.{checked}
 use Rattle.events.specs.Limits.{maxEvents}
-use Rattle.runlog.specs.Layout.{isEvent, start, rawAt}
+use Rattle.runlog.specs.Layout.{start, rawAt}
 use Rattle.runlog.proofs.Steps.{scanned-end, scanned-full, scanned-bad, scanned-more}
 use Rattle.runlog.proofs.passes.scan.Needs as need
 

@@ -5,7 +5,7 @@ use Rattle.std.proofs.shelf.Lists.{take-all}
 use Rattle.std.specs.Of.String.{string-bytes}
 use Rattle.std.specs.Results.{isOk}
 use Rattle.runtext.specs.Text.{linesText}
-use Rattle.runtext.proofs.Joins.{lines-more}
+use Rattle.runtext.proofs.Texts.{lines-more}
 use Rattle.runtext.proofs.run.lines.Needs as need
 
 pub loop-i-again : need.loop-i-again

@@ -1,11 +1,13 @@
-use mathlib.Core.Path.{_≡_, sym, ap, _∙_}
+use mathlib.Core.Path.{sym, ap, _∙_}
 use mathlib.Core.List.{_++_}
 use lib.Chars.{codes}
 use Rattle.std.proofs.shelf.Results.{made-weaker}
+use Rattle.std.specs.Of.String.{string-bytes}
 use Rattle.std.specs.Written.{decimal}
 use Rattle.runlog.specs.Reading.{shown}
 use Rattle.runlog.proofs.Laws.{reads, refused}
 use Rattle.runtext.specs.Text.{runText, logText}
+use Rattle.runtext.proofs.Texts.{tells}
 use Rattle.runtext.proofs.run.log_text.Needs as need
 
 pub returns-in-Ok : need.returns-in-Ok
@@ -13,7 +15,8 @@ returns-in-Ok c =
     let s = c .args .bytes .now in
     let told = c .in-Ok .ensures tt in
     let run = ap (λ r. runText (shown (r .now))) (told .holds) in
-    made-weaker (c .run-text .result) _ _ (λ t is. is ∙ (run ∙ sym (ap logText (reads s tt (told .answers))))) (c .run-text .ensures)
+    let why = sym (ap logText (reads s tt (told .answers))) in
+    made-weaker (c .run-text .result) _ _ (λ t is. tells s (string-bytes t) (is ∙ (run ∙ why))) (c .run-text .ensures)
 
 pub returns-in-Err : need.returns-in-Err
 returns-in-Err c =
@@ -21,6 +24,7 @@ returns-in-Err c =
     let why = sym (ap logText (refused s (c .in-Err .fault) (c .in-Err .ensures tt .answers))) in
     made-weaker (c .format .result) _ _
     (λ t is.
-    is
-    ∙ ((λ k. codes "log refused " ++ (decimal (c .number-number .ensures k) ++ (codes " " ++ (decimal (c .place-place .ensures k) ++ codes "\n")))) ∙ why))
+    tells s (string-bytes t)
+    (is
+    ∙ ((λ k. codes "log refused " ++ (decimal (c .number-number .ensures k) ++ (codes " " ++ (decimal (c .place-place .ensures k) ++ codes "\n")))) ∙ why)))
     (c .format .ensures .made)

@@ -5,7 +5,7 @@ use native.Mathlib.Omega.{arith}
 use Rattle.events.specs.Run.{at}
 use Rattle.runlog.specs.Reading.{eventsOf, linked}
 use Rattle.runlog.proofs.Steps.{at-events, links-bad, links-more, links-all}
-use Rattle.runlog.proofs.passes.link.Needs as need
+use Rattle.runlog.proofs.passes.check_writers.Needs as need
 
 pub returns-then-not-is-linked : need.returns-then-not-is-linked
 returns-then-not-is-linked c =
@@ -13,7 +13,7 @@ returns-then-not-is-linked c =
     let n = c .args .n in
     let k = c .loop-k .k in
     let es = eventsOf s n in
-    let bad : linked es (k + 1) (at es (k + 1)) ≡ false = rw (at-events s n k (k + 1) refl (omega arith)) (sym (c .if-not-is-linked .ensures tt)) in
+    let bad : linked es (k + 1) (at es (k + 1)) ≡ false = rw (at-events s n k (omega arith)) (sym (c .if-not-is-linked .ensures tt)) in
     rw (sym (c .loop-k .inv) ∙ links-bad es k (n - k) (n - (k + 1)) (omega arith) bad) refl
 
 pub loop-k-again : need.loop-k-again
@@ -22,7 +22,7 @@ loop-k-again c =
     let n = c .args .n in
     let k = c .loop-k .k in
     let es = eventsOf s n in
-    let good : linked es (k + 1) (at es (k + 1)) ≡ true = rw (at-events s n k (k + 1) refl (omega arith)) (sym (c .if-not-is-linked .ensures tt)) in
+    let good : linked es (k + 1) (at es (k + 1)) ≡ true = rw (at-events s n k (omega arith)) (sym (c .if-not-is-linked .ensures tt)) in
     sym (links-more es k (n - k) (n - (k + 1)) (omega arith) good) ∙ c .loop-k .inv
 
 pub returns : need.returns
