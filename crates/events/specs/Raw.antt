@@ -63,6 +63,17 @@ checkedKind x (Some k) = checkedMode x k (modeOf (x .mode))
 abbrev pub checked : RawEvent → Result Event FieldFault
 checked x = cond (inThreads (x .thread)) (checkedKind x (kindOf (x .kind))) (Err fault.Thread)
 
+-- the first field that is out of its range, where those before it are in theirs
+pub data FirstField (x : RawEvent) : FieldFault → Type 0 where
+  thread : (InThreads (x .thread) → ⊥) → FirstField x fault.Thread
+  kind : InThreads (x .thread) → ((k : Kind) → kindNumber k ≡ x .kind → ⊥) → FirstField x fault.Kind
+  mode : (k : Kind) → InThreads (x .thread) → kindNumber k ≡ x .kind → ((m : Mode) → modeNumber m ≡ x .mode → allowed k m ≡ true → ⊥) → FirstField x fault.Mode
+  location : (k : Kind) (m : Mode) → InThreads (x .thread) → kindNumber k ≡ x .kind → modeNumber m ≡ x .mode → allowed k m ≡ true → (InLocations k (x .location) → ⊥) → FirstField x fault.Location
+
 -- exactly the numbers of a legal event give that event
-abbrev pub Checks : RawEvent → Result Event FieldFault → Type 0
-Checks x r = (e : Event) → (r ≡ Ok e → Legal e × (rawOf e ≡ x)) × (Legal e → rawOf e ≡ x → r ≡ Ok e)
+abbrev pub Passes : RawEvent → Result Event FieldFault → Type 0
+Passes x r = (e : Event) → (r ≡ Ok e → Legal e × (rawOf e ≡ x)) × (Legal e → rawOf e ≡ x → r ≡ Ok e)
+
+-- and a field is named exactly if it is the first that is out of its range
+abbrev pub Fails : RawEvent → Result Event FieldFault → Type 0
+Fails x r = (f : FieldFault) → (r ≡ Err f → FirstField x f) × (FirstField x f → r ≡ Err f)

@@ -1,6 +1,6 @@
 // An event as plain numbers, and the check that makes an event of them.
 ghost use mathlib.Core.Path.{_≡_};
-ghost use Rattle.events.specs.Raw.{checked, Checks, faultNumber, inLocations};
+ghost use Rattle.events.specs.Raw.{checked, faultNumber, inLocations, Passes, Fails};
 use crate::event::Event;
 use crate::event::Kind;
 use crate::event::Mode;
@@ -50,34 +50,42 @@ fn has_location(kind: Kind, location: u8) -> bool
     }
 }
 
+// The four checks in turn.
+fn check_fields(x: &RawEvent) -> Result<Event, FieldFault>
+    ensures { λ r. ⌜ r ≡ checked (now (x .entry)) ⌝ }
+{
+    if x.thread == 0 || x.thread > MAX_THREADS {
+        return Err(FieldFault::Thread);
+    }
+    let Some(kind) = Kind::from_number(x.kind) else {
+        return Err(FieldFault::Kind);
+    };
+    let Some(mode) = Mode::from_number(x.mode) else {
+        return Err(FieldFault::Mode);
+    };
+    if !kind.allows(mode) {
+        return Err(FieldFault::Mode);
+    }
+    if !has_location(kind, x.location) {
+        return Err(FieldFault::Location);
+    }
+    Ok(Event {
+        thread: x.thread,
+        kind,
+        mode,
+        location: x.location,
+        writer: x.writer,
+    })
+}
+
 impl RawEvent {
     // The event with these numbers, or the first of thread, kind, mode and location that is out of its range. The
     // writer is taken as it is: whether it fits is a question to the whole run.
     pub fn check(&self) -> Result<Event, FieldFault>
         ensures reads { λ r. ⌜ r ≡ checked (now (self .entry)) ⌝ }
-        ensures exact { λ r. ⌜ Checks (now (self .entry)) r ⌝ }
+        ensures passes { λ r. ⌜ Passes (now (self .entry)) r ⌝ }
+        ensures fails { λ r. ⌜ Fails (now (self .entry)) r ⌝ }
     {
-        if self.thread == 0 || self.thread > MAX_THREADS {
-            return Err(FieldFault::Thread);
-        }
-        let Some(kind) = Kind::from_number(self.kind) else {
-            return Err(FieldFault::Kind);
-        };
-        let Some(mode) = Mode::from_number(self.mode) else {
-            return Err(FieldFault::Mode);
-        };
-        if !kind.allows(mode) {
-            return Err(FieldFault::Mode);
-        }
-        if !has_location(kind, self.location) {
-            return Err(FieldFault::Location);
-        }
-        Ok(Event {
-            thread: self.thread,
-            kind,
-            mode,
-            location: self.location,
-            writer: self.writer,
-        })
+        check_fields(self)
     }
 }

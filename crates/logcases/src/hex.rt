@@ -3,7 +3,7 @@ use std::alloc::AllocError;
 use std::alloc::Global;
 
 // The bytes that hexadecimal digits spell. Anything else is passed over.
-pub fn bytes(heap: Global, hex: &str) -> Result<Vec<u8>, AllocError> {
+pub(crate) fn bytes(heap: Global, hex: &str) -> Result<Vec<u8>, AllocError> {
     let mut out = Vec::new(heap);
     let mut high = None;
     for c in hex.chars() {

@@ -7,7 +7,7 @@ use runlog::opening::LogExecution;
 use runlog::opening::open_log;
 
 // 0 and the number of events where the bytes open, else the number and the place of the refusal.
-pub fn opened(bytes: &[u8]) -> (u8, usize) {
+pub(crate) fn opened(bytes: &[u8]) -> (u8, usize) {
     let mut log = Log::empty();
     match open_log(bytes, &mut log) {
         Ok(()) => (0, log.count()),
