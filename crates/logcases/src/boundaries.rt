@@ -2,6 +2,8 @@
 use crate::longest::writes;
 use crate::outcome::opened;
 use runlog::sample::two_plus_two_writes;
+use std::alloc::AllocError;
+use std::alloc::Global;
 use std::test::*;
 
 #[test]
@@ -20,41 +22,31 @@ fn a_byte_too_many(rt: LibcRuntime) -> Result<(), Fail> {
     check_eq(opened(log.as_slice()), (10, 66))
 }
 
+// What opening answers of n writes and the bytes of `tail`.
+fn after_writes(heap: Global, n: usize, tail: &[u8]) -> Result<(u8, usize), AllocError> {
+    let log = writes(heap, n, tail)?;
+    Ok(opened(log.as_slice()))
+}
+
 #[test]
 fn as_long_as_may_be(rt: LibcRuntime) -> Result<(), Fail> {
-    let mut log = writes(rt.alloc(), 512)?;
-    log.extend_from_slice(&[4, 0, 2, 0, 0, 2])?;
-    check_eq(opened(log.as_slice()), (0, 512)).note("512 events")?;
-
-    let mut last = writes(rt.alloc(), 511)?;
-    last.extend_from_slice(&[8, 0, 1, 0, 1, 1, 0, 1, 255, 1])?;
-    last.extend_from_slice(&[4, 0, 2, 0, 0, 2])?;
-    check_eq(opened(last.as_slice()), (0, 512)).note("the last reads from the last but one")?;
-
-    let mut itself = writes(rt.alloc(), 511)?;
-    itself.extend_from_slice(&[8, 0, 1, 0, 1, 3, 0, 1, 0, 2])?;
-    itself.extend_from_slice(&[4, 0, 2, 0, 0, 2])?;
-    check_eq(opened(itself.as_slice()), (11, 5110)).note("the last reads from itself")
+    let end = b"\x04\x00\x02\x00\x00\x02";
+    check_eq(after_writes(rt.alloc(), 512, end)?, (0, 512))?;
+    let reads_511 = b"\x08\x00\x01\x00\x01\x01\x00\x01\xff\x01\x04\x00\x02\x00\x00\x02";
+    check_eq(after_writes(rt.alloc(), 511, reads_511)?, (0, 512))?;
+    let reads_itself = b"\x08\x00\x01\x00\x01\x03\x00\x01\x00\x02\x04\x00\x02\x00\x00\x02";
+    check_eq(after_writes(rt.alloc(), 511, reads_itself)?, (11, 5110))
 }
 
 #[test]
 fn one_event_too_many(rt: LibcRuntime) -> Result<(), Fail> {
-    let mut log = writes(rt.alloc(), 513)?;
-    log.extend_from_slice(&[4, 0, 2, 0, 1, 2])?;
-    check_eq(opened(log.as_slice()), (20, 5120)).note("513 events")?;
-
-    let mut bad = writes(rt.alloc(), 512)?;
-    bad.extend_from_slice(&[8, 0, 1, 0, 9, 2, 0, 1, 0, 0])?;
-    check_eq(opened(bad.as_slice()), (20, 5120)).note("too many comes before its fields")?;
-
-    let mut shape = writes(rt.alloc(), 512)?;
-    shape.extend_from_slice(&[8, 0, 1, 0, 1, 2, 0, 1, 0])?;
-    check_eq(opened(shape.as_slice()), (10, 5120)).note("and after its shape")?;
-
-    let mut field = writes(rt.alloc(), 511)?;
-    field.extend_from_slice(&[8, 0, 1, 0, 1, 2, 1, 1, 0, 0])?;
-    field.extend_from_slice(&[8, 0, 1, 0, 1, 2, 0, 1, 0, 0])?;
-    check_eq(opened(field.as_slice()), (11, 5110)).note("a field before it comes first")
+    let end = b"\x04\x00\x02\x00\x01\x02";
+    check_eq(after_writes(rt.alloc(), 513, end)?, (20, 5120))?;
+    let of_thread_9 = b"\x08\x00\x01\x00\x09\x02\x00\x01\x00\x00";
+    check_eq(after_writes(rt.alloc(), 512, of_thread_9)?, (20, 5120))?;
+    let cut_short = b"\x08\x00\x01\x00\x01\x02\x00\x01\x00";
+    check_eq(after_writes(rt.alloc(), 512, cut_short)?, (10, 5120))?;
+    check_eq(after_writes(rt.alloc(), 511, of_thread_9)?, (11, 5110))
 }
 
 // A write at location 1, and then an event of this kind and mode, which reads from it if it is a load.

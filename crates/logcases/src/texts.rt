@@ -2,6 +2,7 @@
 use crate::hex::bytes;
 use crate::longest::writes;
 use runtext::run::log_text;
+use std::alloc::Global;
 use std::test::*;
 
 const EVERY_KIND: &str = "
@@ -34,51 +35,41 @@ T7 W rel L10
 12 events
 ";
 
+fn has_text(heap: Global, log: &[u8], expected: &str) -> Result<(), Fail> {
+    let text = log_text(heap, log)?;
+    check_eq(text.as_str(), expected)
+}
+
 #[test]
 fn every_kind_and_mode(rt: LibcRuntime) -> Result<(), Fail> {
     let log = bytes(rt.alloc(), EVERY_KIND)?;
-    check_eq(log_text(rt.alloc(), log.as_slice())?.as_str(), ITS_TEXT)
+    has_text(rt.alloc(), log.as_slice(), ITS_TEXT)
 }
 
 #[test]
 fn the_longest_run(rt: LibcRuntime) -> Result<(), Fail> {
-    let mut log = writes(rt.alloc(), 511)?;
-    log.extend_from_slice(&[8, 0, 1, 0, 1, 1, 0, 1, 255, 1])?;
-    log.extend_from_slice(&[4, 0, 2, 0, 0, 2])?;
+    let reads_511 = b"\x08\x00\x01\x00\x01\x01\x00\x01\xff\x01\x04\x00\x02\x00\x00\x02";
+    let log = writes(rt.alloc(), 511, reads_511)?;
     let text = log_text(rt.alloc(), log.as_slice())?;
     check_eq(text.as_str().lines().count(), 513)?;
-    check(text.as_str().starts_with("T1 W rlx L1\nT1 W rlx L1\n"))?;
     check(
         text.as_str()
-            .ends_with("T1 R rlx L1 from 511\n512 events\n"),
+            .ends_with("T1 W rlx L1\nT1 R rlx L1 from 511\n512 events\n"),
     )
 }
 
 #[test]
 fn no_events_and_no_log(rt: LibcRuntime) -> Result<(), Fail> {
-    check_eq(
-        log_text(rt.alloc(), &[4, 0, 2, 0, 0, 0])?.as_str(),
-        "0 events\n",
-    )?;
-    check_eq(log_text(rt.alloc(), &[])?.as_str(), "log refused 10 0\n")
+    has_text(rt.alloc(), b"\x04\x00\x02\x00\x00\x00", "0 events\n")?;
+    has_text(rt.alloc(), b"", "log refused 10 0\n")
 }
 
 #[test]
 fn each_refusal(rt: LibcRuntime) -> Result<(), Fail> {
-    let shape = writes(rt.alloc(), 3)?;
-    check_eq(
-        log_text(rt.alloc(), shape.as_slice())?.as_str(),
-        "log refused 10 30\n",
-    )?;
-    let mut field = writes(rt.alloc(), 2)?;
-    field.extend_from_slice(&[8, 0, 1, 0, 9, 2, 0, 1, 0, 0])?;
-    check_eq(
-        log_text(rt.alloc(), field.as_slice())?.as_str(),
-        "log refused 11 20\n",
-    )?;
-    let many = writes(rt.alloc(), 513)?;
-    check_eq(
-        log_text(rt.alloc(), many.as_slice())?.as_str(),
-        "log refused 20 5120\n",
-    )
+    let cut = writes(rt.alloc(), 3, b"")?;
+    has_text(rt.alloc(), cut.as_slice(), "log refused 10 30\n")?;
+    let of_thread_9 = writes(rt.alloc(), 2, b"\x08\x00\x01\x00\x09\x02\x00\x01\x00\x00")?;
+    has_text(rt.alloc(), of_thread_9.as_slice(), "log refused 11 20\n")?;
+    let many = writes(rt.alloc(), 513, b"")?;
+    has_text(rt.alloc(), many.as_slice(), "log refused 20 5120\n")
 }
