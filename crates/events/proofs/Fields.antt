@@ -1,4 +1,4 @@
--- The numbers of a legal event, and no others, pass the check of the fields.
+-- The numbers of a legal event, and no others, pass the check of the fields; else the first field out of range is named.
 use mathlib.Core.Path.{_≡_, refl, sym, ap, subst, _∙_}
 use mathlib.Core.Logic.{_⊎_, inl, inr, ⊎-elim}
 use mathlib.Core.Bool.{Bool, true, false, cond}
@@ -21,11 +21,12 @@ use Rattle.events.specs.declared.event.Event.{Event}
 use Rattle.events.specs.declared.raw.RawEvent.{RawEvent}
 use Rattle.events.specs.declared.raw.FieldFault.{FieldFault}
 use Rattle.events.specs.declared.raw.FieldFault.the-variants as fault
+use Rattle.events.proofs.Results.{apart}
 
 -- what came through a test passed it
-pub passed : {A B : Type 0} (b : Bool) (r : Result A B) (e : B) (x : A) → cond b r (Err e) ≡ Ok x → (b ≡ true) × (r ≡ Ok x)
+passed : {A B : Type 0} (b : Bool) (r : Result A B) (e : B) (x : A) → cond b r (Err e) ≡ Ok x → (b ≡ true) × (r ≡ Ok x)
 passed true r e x h = (refl, h)
-passed false r e x h = let z : _≡_ {A = ℕ} 0 1 = cc in absurd (omega arith)
+passed false r e x h = absurd (apart h refl)
 
 kind-number : (n : ℕ) (k : Kind) → kindOf n ≡ Some k → kindNumber k ≡ n
 kind-number n k h = grind (arith, tells)
@@ -50,7 +51,7 @@ abbrev made : RawEvent → Kind → Mode → Event
 made x k m = record { thread = x .thread; kind = k; mode = m; location = x .location; writer = x .writer }
 
 passed-mode : (x : RawEvent) (k : Kind) (o : Option Mode) (e : Event) → kindOf (x .kind) ≡ Some k → modeOf (x .mode) ≡ o → checkedMode x k o ≡ Ok e → Passed x e
-passed-mode x k None e p q h = let z : _≡_ {A = ℕ} 0 1 = cc in absurd (omega arith)
+passed-mode x k None e p q h = absurd (apart h refl)
 passed-mode x k (Some m) e p q h =
     let a = passed (allowed k m) (cond (inLocations k (x .location)) (Ok (made x k m)) (Err fault.Location)) fault.Mode e h in
     let b = passed (inLocations k (x .location)) (Ok (made x k m)) fault.Location e (a .1) in
@@ -60,7 +61,7 @@ passed-mode x k (Some m) e p q h =
     record { kind = cc; mode = cc; suits = cc; place = cc; thread = cc; location = cc; writer = cc }
 
 passed-kind : (x : RawEvent) (o : Option Kind) (e : Event) → kindOf (x .kind) ≡ o → checkedKind x o ≡ Ok e → Passed x e
-passed-kind x None e p h = let z : _≡_ {A = ℕ} 0 1 = cc in absurd (omega arith)
+passed-kind x None e p h = absurd (apart h refl)
 passed-kind x (Some k) e p h = passed-mode x k (modeOf (x .mode)) e p refl h
 
 pub checked-legal : (x : RawEvent) (e : Event) → checked x ≡ Ok e → Legal e × (rawOf e ≡ x)
@@ -118,7 +119,7 @@ module _ (x : RawEvent) (f : FieldFault) where
   first-place k m t p q h =
       ⊎-elim
       (λ a.
-      ⊎-elim (λ b. let z : _≡_ {A = ℕ} 0 1 = cc in absurd (omega arith))
+      ⊎-elim (λ b. absurd (apart refl (b .1)))
       (λ b. subst (FirstField x) (b .1) (bad-location k m t p q (a .0) (λ l. both-ways _ (b .0) (in-locations k (x .location) l))))
       (failed (inLocations k (x .location)) (Ok (made x k m)) fault.Location f (a .1)))
       (λ a.

@@ -1,4 +1,5 @@
 -- Kinds, modes and events.
+use mathlib.Core.Path.{_≡_}
 use mathlib.Core.Bool.{Bool, true, false, not, _&&_, cond}
 use Prim.Native.Nat.{ℕ}
 use lib.Dec.{eqb}
@@ -9,6 +10,11 @@ use Rattle.events.specs.declared.event.Kind.the-variants.{Read, Write, Update,
 use Rattle.events.specs.declared.event.Mode.{Mode}
 use Rattle.events.specs.declared.event.Mode.the-variants.{Relaxed, Acquire, Release, AcquireRelease}
 use Rattle.events.specs.declared.event.Event.{Event}
+
+-- o is what has the number n, if anything has
+abbrev pub Numbered : {A : Type 0} → (A → ℕ) → ℕ → Option A → Type 0
+Numbered number n (Some a) = number a ≡ n
+Numbered {A} number n None = (a : A) → number a ≡ n → ⊥
 
 abbrev pub kindNumber : Kind → ℕ
 kindNumber Read = 1

@@ -1,6 +1,6 @@
 // An event of a run: one atomic access of a thread, or a fence.
 ghost use mathlib.Core.Path.{_≡_};
-ghost use Rattle.events.specs.Events.{isLoad, isStore, isAccess, acquires, releases, kindOf, modeOf, allowed, writerOf, fitting};
+ghost use Rattle.events.specs.Events.{isLoad, isStore, isAccess, acquires, releases, kindNumber, kindOf, modeNumber, modeOf, Numbered, allowed, writerOf, fitting};
 
 // What an event does. An update is a successful read-modify-write; a failed one is a read.
 #[derive(Clone, Copy)]
@@ -33,7 +33,8 @@ pub struct Event {
 impl Kind {
     // The kind with this number, if there is one.
     pub fn from_number(n: u8) -> Option<Kind>
-        ensures { λ r. ⌜ r ≡ kindOf n ⌝ }
+        ensures reads { λ r. ⌜ r ≡ kindOf n ⌝ }
+        ensures named { λ r. ⌜ Numbered kindNumber n r ⌝ }
     {
         match n {
             1 => Some(Kind::Read),
@@ -89,7 +90,8 @@ impl Kind {
 impl Mode {
     // The mode with this number, if there is one.
     pub fn from_number(n: u8) -> Option<Mode>
-        ensures { λ r. ⌜ r ≡ modeOf n ⌝ }
+        ensures reads { λ r. ⌜ r ≡ modeOf n ⌝ }
+        ensures named { λ r. ⌜ Numbered modeNumber n r ⌝ }
     {
         match n {
             0 => Some(Mode::Relaxed),

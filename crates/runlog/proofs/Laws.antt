@@ -5,15 +5,17 @@ use mathlib.Core.List.{List, [], _∷_}
 use Prim.Native.Nat.{ℕ, _+_, _-_, _*_, _≤_, _<_}
 use native.Mathlib.Omega.{arith}
 use lib.ListN.{length}
-use Rattle.std.specs.Results.{isOk}
+use Rattle.std.proofs.shelf.Tests.{false≢true}
+use Rattle.std.specs.Results.{isOk, valueOr}
 use Rattle.std.specs.declared.result.Result.{Result}
 use Rattle.std.specs.declared.result.Result.the-variants.{Ok, Err}
 use Rattle.events.specs.Limits.{maxEvents}
 use Rattle.events.specs.Run.{at, Within, Linked, FullRun}
 use Rattle.events.specs.declared.event.Event.{Event}
+use Rattle.events.proofs.Results.{apart, ok-value}
 use Rattle.runlog.specs.Layout.{byte}
 use Rattle.runlog.specs.Spelling.{spelling}
-use Rattle.runlog.specs.Reading.{eventAt, eventsOf, reading, shownBy, shown, Answers}
+use Rattle.runlog.specs.Reading.{eventAt, eventsOf, reading, shown, Answers}
 use Rattle.runlog.specs.Opening.{Opens, Refuses}
 use Rattle.runlog.specs.FirstFault.{Sound, Closed, FirstFault}
 use Rattle.runlog.specs.declared.fault.LogFault.{LogFault}
@@ -69,13 +71,9 @@ pub fault-from-reading : (s : List ℕ) (f : LogFault) → reading s ≡ Err f �
 fault-from-reading s f is = rw is at (outcome s)
 
 -- the run that an opened log shows is full
-ok-shown : (r : Result (List Event) LogFault) → isOk r ≡ true → r ≡ Ok (shownBy r)
-ok-shown (Ok x) h = refl
-ok-shown (Err f) h = let z : _≡_ {A = ℕ} 0 1 = cc in absurd (omega arith)
-
 pub reads-shown : (s : List ℕ) → isOk (reading s) ≡ true → reading s ≡ Ok (shown s)
 unfolding shown
-reads-shown s h = ok-shown (reading s) h
+reads-shown s h = ok-value (reading s) [] h
 
 pub full-shown : (s : List ℕ) → isOk (reading s) ≡ true → FullRun (shown s)
 full-shown s h = full-from-reading s (shown s) (reads-shown s h)
@@ -94,7 +92,7 @@ empty-reads = reading-from-spelled (4 ∷ (0 ∷ (2 ∷ (0 ∷ (0 ∷ (0 ∷ [])
 
 pub empty-shows : shown (4 ∷ (0 ∷ (2 ∷ (0 ∷ (0 ∷ (0 ∷ [])))))) ≡ []
 unfolding shown
-empty-shows = ap shownBy empty-reads
+empty-shows = ap (λ r. valueOr r []) empty-reads
 
 -- what an opened log of s holds
 module _ (s : List ℕ) (ok : isOk (reading s) ≡ true) where
@@ -143,26 +141,14 @@ module _ (s : List ℕ) where
     )
 
     pub refuses-ok : Refuses s (Ok u)
-    refuses-ok f = (
-      λ e. let z : _≡_ {A = ℕ} 0 1 = cc in absurd (omega arith),
-      λ fault.
-          let back = fault-is s fault in
-          let here = reads in
-          let z : _≡_ {A = ℕ} 0 1 = cc in absurd (omega arith),
-    )
+    refuses-ok f = (λ e. absurd (apart refl e), λ fault. absurd (apart reads (fault-is s fault)))
 
   module _ (f : LogFault) (told : Answers (reading s) (Err f)) where
     pub refused : reading s ≡ Err f
     refused = answered-err (reading s) f told
 
     pub opens-err : (shows : List Event) → Opens s shows (Err f)
-    opens-err shows x = (
-      λ e. let z : _≡_ {A = ℕ} 0 1 = cc in absurd (omega arith),
-      λ spelled full.
-          let back = reading-from-spelled s x full spelled in
-          let here = refused in
-          let z : _≡_ {A = ℕ} 0 1 = cc in absurd (omega arith),
-    )
+    opens-err shows x = (λ e. absurd (false≢true e), λ spelled full. absurd (apart (reading-from-spelled s x full spelled) refused))
 
     pub refuses-err : Refuses s (Err f)
     refuses-err g = (

@@ -11,6 +11,7 @@ use Rattle.std.proofs.shelf.Counted.{fill-by-all}
 use Rattle.std.proofs.shelf.Lists.{length-append, getD-append-left, getD-append-right, ext-getD}
 use Rattle.std.proofs.shelf.Tests.{cases-lt, and-parts, and-from, leb-true, eqb-true, le-leb, eq-eqb}
 use Rattle.std.specs.Joined.{joined}
+use Rattle.std.specs.Results.{valueOr}
 use Rattle.std.specs.declared.result.Result.the-variants.{Ok}
 use Rattle.events.specs.Raw.{Legal, rawOf, checked}
 use Rattle.events.specs.Run.{at, noEvent, Linked, FullRun}
@@ -19,7 +20,7 @@ use Rattle.events.proofs.Fields.{legal-checked}
 use Rattle.events.proofs.Numbers.{at-next}
 use Rattle.runlog.specs.Layout.{byte, word, recordAt, start, rawAt}
 use Rattle.runlog.specs.Spelling.{eventBytes, endBytes, spelling}
-use Rattle.runlog.specs.Reading.{eventOr, eventAt, eventsOf}
+use Rattle.runlog.specs.Reading.{eventAt, eventsOf}
 use Rattle.runlog.specs.FirstFault.{Sound, Ends, Closed}
 use Rattle.runlog.proofs.Steps.{length-events, nth-events, sound-event}
 
@@ -218,7 +219,7 @@ module _ (es : List Event) (full : FullRun es) (s : List ℕ) (is : s ≡ spelli
   spelled-closed = record { begins = record { few = full .few; sound = sound-back }; ends = ends-back; whole = sym long }
 
   pub spelled-events : es ≡ eventsOf s (length es)
-  spelled-events = fill-by-all (eventAt s) es (length es) noEvent refl (λ k within. sym (ap eventOr (checked-back k within)))
+  spelled-events = fill-by-all (eventAt s) es (length es) noEvent refl (λ k within. sym (ap (λ r. valueOr r noEvent) (checked-back k within)))
 
   pub spelled-linked : (k : ℕ) → k < length es → Linked (eventsOf s (length es)) (k + 1)
   spelled-linked k within = rw (sym spelled-events) (full .linked (k + 1) (omega arith, omega arith))

@@ -9,18 +9,17 @@ use lib.ListN.{length, getD}
 use Rattle.std.proofs.shelf.Counted.{length-map-counting, getD-map-counting}
 use Rattle.std.proofs.shelf.Tests.{le-leb, lt-leb}
 use Rattle.std.specs.declared.option.Option.the-variants.{Some}
-use Rattle.std.specs.Results.{isOk}
-use Rattle.std.specs.declared.result.Result.{Result}
+use Rattle.std.specs.Results.{isOk, valueOr}
 use Rattle.std.specs.declared.result.Result.the-variants.{Ok, Err}
 use Rattle.events.specs.Events.{isLoad, writerOf, fitting}
 use Rattle.events.specs.Raw.{checked}
 use Rattle.events.specs.Run.{at, noEvent}
 use Rattle.events.specs.declared.event.Event.{Event}
-use Rattle.events.specs.declared.raw.FieldFault.{FieldFault}
 use Rattle.events.proofs.Fields.{checked-legal, legal-checked}
 use Rattle.events.proofs.Numbers.{at-next}
+use Rattle.events.proofs.Results.{ok-value}
 use Rattle.runlog.specs.Layout.{isEvent, start, rawAt}
-use Rattle.runlog.specs.Reading.{ended, scanned, eventOr, eventAt, eventsOf, linked, linkedUp}
+use Rattle.runlog.specs.Reading.{ended, scanned, eventAt, eventsOf, linked, linkedUp}
 use Rattle.runlog.specs.FirstFault.{LegalAt, Sound}
 use Rattle.runlog.specs.declared.fault.LogFault.the-variants.{BadEvent, TooMany}
 
@@ -60,18 +59,18 @@ pub legal-test : (s : List ℕ) (p : ℕ) → LegalAt s p → isOk (checked (raw
 legal-test s p here = ap isOk (legal-checked (rawAt s p) (here .0) (here .1) (here .2))
 
 pub test-legal : (s : List ℕ) (p : ℕ) → isOk (checked (rawAt s p)) ≡ true → LegalAt s p
-test-legal s p ok = let e = eventOr (checked (rawAt s p)) in let is = checked-legal (rawAt s p) e (ok-event (checked (rawAt s p)) ok) in (e, is .0, is .1)
-  where
-    ok-event : (r : Result Event FieldFault) → isOk r ≡ true → r ≡ Ok (eventOr r)
-    ok-event (Ok e) h = refl
-    ok-event (Err f) h = let z : _≡_ {A = ℕ} 0 1 = cc in absurd (omega arith)
+test-legal s p ok =
+    let x = rawAt s p in
+    let e = valueOr (checked x) noEvent in
+    let is = checked-legal x e (ok-value (checked x) noEvent ok) in
+    (e, is .0, is .1)
 
 -- and a sound record holds its event
 pub sound-checked : (s : List ℕ) (k : ℕ) (here : Sound s k) → checked (rawAt s (start k)) ≡ Ok (here .legal .0)
 sound-checked s k here = let l = here .legal in legal-checked (rawAt s (start k)) (l .0) (l .1) (l .2)
 
 pub sound-event : (s : List ℕ) (k : ℕ) (here : Sound s k) → eventAt s k ≡ here .legal .0
-sound-event s k here = ap eventOr (sound-checked s k here)
+sound-event s k here = ap (λ r. valueOr r noEvent) (sound-checked s k here)
 
 -- e, which is event i of n, and its writer w
 module _ (s : List ℕ) (n i : ℕ) (e : Event) (w : ℕ) (some : writerOf e ≡ Some w) where

@@ -6,7 +6,7 @@ use Prim.Native.Nat.{ℕ, zero, suc, _+_}
 use lib.Dec.{eqb, leb}
 use lib.ListN.{length}
 use Rattle.std.specs.Iters.{counting}
-use Rattle.std.specs.Results.{isOk}
+use Rattle.std.specs.Results.{isOk, valueOr}
 use Rattle.std.specs.declared.option.Option.{Option}
 use Rattle.std.specs.declared.option.Option.the-variants.{Some, None}
 use Rattle.std.specs.declared.result.Result.{Result}
@@ -16,7 +16,6 @@ use Rattle.events.specs.Events.{isLoad, writerOf, fitting}
 use Rattle.events.specs.Raw.{checked}
 use Rattle.events.specs.Run.{at, noEvent}
 use Rattle.events.specs.declared.event.Event.{Event}
-use Rattle.events.specs.declared.raw.FieldFault.{FieldFault}
 use Rattle.runlog.specs.Layout.{word, isEvent, isEnd, start, afterEnd, rawAt}
 use Rattle.runlog.specs.declared.fault.LogFault.{LogFault}
 use Rattle.runlog.specs.declared.fault.LogFault.the-variants.{Shape, BadEvent, TooMany}
@@ -36,13 +35,9 @@ scanned (suc k) s n =
     (cond (isOk (checked (rawAt s (start n)))) (scanned k s (n + 1)) (Err (BadEvent (start n))))
     (ended s n)
 
-abbrev pub eventOr : Result Event FieldFault → Event
-eventOr (Ok e) = e
-eventOr (Err f) = noEvent
-
 -- the event of the record after k others
 abbrev pub eventAt : List ℕ → ℕ → Event
-eventAt s k = eventOr (checked (rawAt s (start k)))
+eventAt s k = valueOr (checked (rawAt s (start k))) noEvent
 
 -- the events of the first n records
 abbrev pub eventsOf : List ℕ → ℕ → List Event
@@ -70,12 +65,8 @@ unfoldable pub reading : List ℕ → Result (List Event) LogFault
 reading s = withWriters s (scanned maxEvents s 0)
 
 -- the run that a log which opens shows
-abbrev pub shownBy : Result (List Event) LogFault → List Event
-shownBy (Ok es) = es
-shownBy (Err f) = []
-
 unfoldable pub shown : List ℕ → List Event
-shown s = shownBy (reading s)
+shown s = valueOr (reading s) []
 
 -- what opening answers: nothing where there is a run, else the fault
 abbrev pub Answers : Result (List Event) LogFault → Result (Unit {0}) LogFault → Type 0
