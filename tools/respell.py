@@ -55,15 +55,15 @@ def snake(name):
 
 NEW = {name: snake(name) for name in DEFINITIONS + LEMMAS} | OTHERS
 LETTER = r"[\w'≡≢≤-]"
-WORD = re.compile(r"(?<!%s)(\.?)(%s)(?!%s)" % (LETTER, "|".join(map(re.escape, sorted(NEW, key=len, reverse=True))), LETTER))
+WORD = re.compile(r"(?<!%s)(%s)(?!%s)" % (LETTER, "|".join(map(re.escape, sorted(NEW, key=len, reverse=True))), LETTER))
 
 
 def respelled(m):
-    dot, name = m.groups()
+    name = m.group(1)
     # what stands after a dot and has a dash is a name that Rattle makes of the code
-    if dot and "-" in name and name not in FIELDS:
-        return m.group(0)
-    return dot + NEW[name]
+    if m.string[: m.start()].endswith(".") and "-" in name and name not in FIELDS:
+        return name
+    return NEW[name]
 
 
 def main():

@@ -1,5 +1,7 @@
 // Logs, good and broken, and what opening each of them answers. The crate has tests and nothing else, so that the
 // crates that it tests are not proved twice.
+#![tactic(auto)]
+
 #[cfg(test)]
 mod asking;
 #[cfg(test)]

@@ -1,4 +1,6 @@
 // Prints the run whose log comes on standard input, a line an event, or why the log is refused.
+#![tactic(auto)]
+
 use input::fill;
 use runtext::run::log_text;
 use std::io;

@@ -1,4 +1,6 @@
 // The log of a run: its byte layout, what is refused, and an opened log as an execution.
+#![tactic(auto)]
+
 pub mod fault;
 mod layout;
 pub mod log;

@@ -1,3 +1,5 @@
 // Runs and logs as text.
+#![tactic(auto)]
+
 pub mod event;
 pub mod run;

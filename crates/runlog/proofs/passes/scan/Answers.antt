@@ -6,15 +6,15 @@ use Rattle.runlog.specs.Layout.{start, raw_at}
 use Rattle.runlog.proofs.Steps.{scanned_end, scanned_full, scanned_bad, scanned_more}
 use Rattle.runlog.proofs.passes.scan.Goals as goal
 
-pub returns-then-n-eq-MAX-EVENTS : goal.returns-then-n-eq-MAX-EVENTS
-returns-then-n-eq-MAX-EVENTS c =
+pub returns-then-n-eq-MAX_EVENTS : goal.returns-then-n-eq-MAX_EVENTS
+returns-then-n-eq-MAX_EVENTS c =
     sym (scanned_full c.args.s.now c.loop-n.n (max_events - c.loop-n.n) (omega arith) (sym c.loop-n-test.ensures)) ∙ c.loop-n.invariant.1
 
-pub raw-at-requires : goal.raw-at-requires
-raw-at-requires c = let is = c.loop-n-test.ensures in grind (arith, nat_tests)
+pub raw_at-requires : goal.raw_at-requires
+raw_at-requires c = let is = c.loop-n-test.ensures in grind (arith, nat_tests)
 
-pub returns-then-is-err : goal.returns-then-is-err
-returns-then-is-err c =
+pub returns-then-is_err : goal.returns-then-is_err
+returns-then-is_err c =
     let n = c.loop-n.n in
     let bad : is_ok (checked (raw_at c.args.s.now (start n))) ≡ false = search rules in
     sym (scanned_bad c.args.s.now n (max_events - n) (max_events - (n + 1)) (omega arith) (sym c.loop-n-test.ensures) bad) ∙ c.loop-n.invariant.1
@@ -29,4 +29,4 @@ loop-n-preserved c =
 
 pub returns : goal.returns
 returns c =
-    c.end-of.ensures ∙ (sym (scanned_end c.args.s.now c.loop-n.n (max_events - c.loop-n.n) (sym c.loop-n-test.ensures)) ∙ c.loop-n.invariant.1)
+    c.end_of.ensures ∙ (sym (scanned_end c.args.s.now c.loop-n.n (max_events - c.loop-n.n) (sym c.loop-n-test.ensures)) ∙ c.loop-n.invariant.1)

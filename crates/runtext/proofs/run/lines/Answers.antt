@@ -7,11 +7,11 @@ use Rattle.runtext.proofs.run.lines.Goals as goal
 
 pub loop-i-preserved : goal.loop-i-preserved
 loop-i-preserved g c =
-    lines_more (g.E.Execution.events c.args.x.now) c.loop-i.i (string_bytes c.loop-i.text) (string_bytes c.push-str.new.self) c.as-str.result.now
+    lines_more (g.E.Execution.events c.args.x.now) c.loop-i.i (string_bytes c.loop-i.text) (string_bytes c.push_str.new.self) c.as_str.result.now
     (omega (arith, c.count-i-end.ensures))
     c.loop-i.invariant
-    (c.as-str.ensures.value ∙ c.in-ok-next.ensures)
-    (chosen _ _ _ _ c.push-str.ensures.bytes (ap is_ok c.in-ok-push-str.was))
+    (c.as_str.ensures.value ∙ c.in_ok-next.ensures)
+    (chosen _ _ _ _ c.push_str.ensures.bytes (ap is_ok c.in_ok-push_str.was))
 
 pub returns : goal.returns
 returns g c =

@@ -12,7 +12,7 @@ returns-in-Ok c =
     let told = c.in-Ok.ensures in
     let run = ap (λ r. run_text (shown r.now)) told.holds in
     let why = sym (ap log_text (reads s tt told.answers)) in
-    IfOk-weaker c.run-text.result _ _ (λ t is. tells s (string_bytes t) (is ∙ (run ∙ why))) c.run-text.ensures
+    IfOk-weaker c.run_text.result _ _ (λ t is. tells s (string_bytes t) (is ∙ (run ∙ why))) c.run_text.ensures
 
 pub returns-in-Err : goal.returns-in-Err
 returns-in-Err c =

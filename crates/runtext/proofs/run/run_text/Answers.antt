@@ -4,4 +4,4 @@ use Rattle.runtext.proofs.run.run_text.Goals as goal
 
 pub returns : goal.returns
 returns g c =
-    IfOk-weaker c.format.result _ _ (λ t is. is ∙ (λ k. c.in-ok-all.ensures k ++ (decimal (c.count-n.ensures k) ++ codes " events\n"))) c.format.ensures.ok
+    IfOk-weaker c.format.result _ _ (λ t is. is ∙ (λ k. c.in_ok-all.ensures k ++ (decimal (c.count-n.ensures k) ++ codes " events\n"))) c.format.ensures.ok

@@ -5,7 +5,7 @@ use Rattle.events.proofs.raw.RawEvent.check.Goals as goal
 pub returns : goal.returns
 returns c =
     let x = c.args.self.now in
-    let is = c.check-fields.ensures in
+    let is = c.check_fields.ensures in
     record {
       reads = is;
       passes = λ e. (λ h. checked_legal x e (sym is ∙ h), λ legal raw. is ∙ legal_checked x e legal raw);
