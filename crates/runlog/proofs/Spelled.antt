@@ -6,7 +6,7 @@ use Rattle.std.proofs.lemmas.Bool.{cases_lt, and_parts, and_from, leb-true, eqb-
 use Rattle.std.specs.List.{flat_map}
 use Rattle.std.specs.Result.{result_unwrap_or}
 use Rattle.events.specs.Raw.{Legal, raw_of, checked}
-use Rattle.events.specs.Run.{at, no_event, Linked, FullRun}
+use Rattle.events.specs.Run.{no_event, Linked, FullRun}
 use Rattle.events.specs.declared.event.Event.{Event}
 use Rattle.events.proofs.Fields.{legal_checked}
 use Rattle.events.proofs.Numbers.{at_next}
