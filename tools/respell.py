@@ -1,7 +1,7 @@
 #!/usr/bin/env python3
 """Brings the names of this repository's own definitions and lemmas to Rattle's spelling of today: snake case, and a dash
-only where it joins the names of two definitions. It was run once, right after the kit's port.py, at the top of the
-repository; on today's tree it changes nothing. Names of src/, strings, inputs and outputs are not in the table."""
+only before or after the name of a definition. To be run right after the kit's port.py, at the top of the repository;
+on today's tree it changes nothing. Names of src/, strings, inputs and outputs are not in the table."""
 import glob
 import re
 
