@@ -3,7 +3,7 @@ use Rattle.std.proofs.Common.{◌≡◌, ℕ, Bool, true, false, cond, ◌⊎◌
 use Rattle.std.proofs.lemmas.Bool.{both_ways, cases_Bool, cond-true, cond-false}
 use Rattle.std.proofs.lemmas.Bool.Decides.{nat_tests}
 use Rattle.events.specs.Events.{kind_number, kind_of, mode_number, mode_of, allowed}
-use Rattle.events.specs.Raw.{Legal, raw_of, checked, checked_kind, checked_mode, in_threads, InThreads, in_locations, InLocations, FirstField}
+use Rattle.events.specs.Raw.{Legal, raw_of, checked, checked_kind, checked_mode, in_threads, InThreads, in_locations, InLocations, FirstField, Checks}
 use Rattle.events.specs.Raw.FirstField.{thread as bad_thread, kind as bad_kind, mode as bad_mode, location as bad_location}
 use Rattle.events.specs.declared.event.Kind.{Kind}
 use Rattle.events.specs.declared.event.Kind.TheVariants.{Read, Write, Update, Fence}
@@ -166,3 +166,12 @@ module _ (x : RawEvent) where
   field_first (bad_kind t never) = after_thread (Err fault.Kind) t (no_kind (kind_of x.kind) refl never)
   field_first (bad_mode k t p never) = after_thread (Err fault.Mode) t (after_kind k (Err fault.Mode) p (no_mode k (mode_of x.mode) refl never))
   field_first (bad_location k m t p q s never) = after_thread (Err fault.Location) t (after_kind k (Err fault.Location) p (no_place k m q s never))
+
+-- what the checks come to is all that is said of it
+pub checks : (x : RawEvent) (r : Result Event FieldFault) → r ≡ checked x → Checks x r
+checks x r is =
+    record {
+      reads = is;
+      passes = λ e. (λ h. checked_legal x e (sym is ∙ h), λ legal raw. is ∙ legal_checked x e legal raw);
+      fails = λ f. (λ h. first_field x f (sym is ∙ h), λ first. is ∙ field_first x first);
+    }

@@ -1,15 +1,10 @@
 -- Kinds, modes and events.
-use Rattle.std.specs.Prelude.{◌≡◌, ℕ, Bool, true, false, cond, not, ◌&&◌, Some, None, Option, ◌==◌, ◌≢◌}
+use Rattle.std.specs.Prelude.{ℕ, Bool, true, false, not, ◌&&◌, Some, None, Option, ◌==◌, if◌then◌else◌}
 use Rattle.events.specs.declared.event.Kind.{Kind}
 use Rattle.events.specs.declared.event.Kind.TheVariants.{Read, Write, Update, Fence}
 use Rattle.events.specs.declared.event.Mode.{Mode}
 use Rattle.events.specs.declared.event.Mode.TheVariants.{Relaxed, Acquire, Release, AcquireRelease}
 use Rattle.events.specs.declared.event.Event.{Event}
-
--- o is what has the number n, if anything has
-abbrev pub Numbered : {A : Type 0} → (A → ℕ) → ℕ → Option A → Type 0
-Numbered number n (Some a) = number a ≡ n
-Numbered {A} number n None = (a : A) → number a ≢ n
 
 abbrev pub kind_number : Kind → ℕ
 kind_number Read = 1
@@ -18,7 +13,7 @@ kind_number Update = 3
 kind_number Fence = 4
 
 abbrev pub kind_of : ℕ → Option Kind
-kind_of n = cond (n == 1) (Some Read) (cond (n == 2) (Some Write) (cond (n == 3) (Some Update) (cond (n == 4) (Some Fence) None)))
+kind_of n = if n == 1 then Some Read else if n == 2 then Some Write else if n == 3 then Some Update else if n == 4 then Some Fence else None
 
 abbrev pub mode_number : Mode → ℕ
 mode_number Relaxed = 0
@@ -27,7 +22,7 @@ mode_number Release = 2
 mode_number AcquireRelease = 3
 
 abbrev pub mode_of : ℕ → Option Mode
-mode_of n = cond (n == 0) (Some Relaxed) (cond (n == 1) (Some Acquire) (cond (n == 2) (Some Release) (cond (n == 3) (Some AcquireRelease) None)))
+mode_of n = if n == 0 then Some Relaxed else if n == 1 then Some Acquire else if n == 2 then Some Release else if n == 3 then Some AcquireRelease else None
 
 abbrev pub is_load : Kind → Bool
 is_load Read = true
@@ -71,7 +66,7 @@ allowed Fence m = true
 
 -- the stored number 0 means that there is no writer
 abbrev pub writer_of : Event → Option ℕ
-writer_of e = cond (e.writer == 0) None (Some e.writer)
+writer_of e = if e.writer == 0 then None else Some e.writer
 
 -- w, the event with number i, can be what l, the event with number r, reads from
 abbrev pub fitting : Event → ℕ → Event → ℕ → Bool

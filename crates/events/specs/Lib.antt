@@ -2,5 +2,5 @@ pub mod Limits
 pub mod Events
 pub mod Raw
 pub mod Run
-pub mod OneProof
 pub mod Graph
+pub mod Text

@@ -1,5 +1,6 @@
 -- Events as plain numbers.
-use Rattle.std.specs.Prelude.{◌≡◌, ℕ, ◌≤◌, Bool, true, false, cond, ◌&&◌, Some, None, Ok, Err, Option, Result, ◌==◌, ◌≢◌, nat_le}
+use Rattle.std.specs.Prelude.{◌≡◌, ℕ, ◌≤◌, Bool, true, false, ◌&&◌, Some, None, Ok, Err, Option, Result, ◌==◌, ◌≢◌, nat_le, if◌then◌else◌, MatchResult}
+use Rattle.std.specs.Option.{ok_or}
 use Rattle.events.specs.Limits.{max_threads, max_locations}
 use Rattle.events.specs.Events.{kind_number, kind_of, mode_number, mode_of, allowed, is_access}
 use Rattle.events.specs.declared.event.Kind.{Kind}
@@ -14,6 +15,17 @@ fault_number fault.Thread = 1
 fault_number fault.Kind = 2
 fault_number fault.Mode = 3
 fault_number fault.Location = 4
+
+-- r is what has the number n, if anything has, and else the fault f
+pub record Decodes {A : Type 0} (number : A → ℕ) (of : ℕ → Option A) (f : FieldFault) (n : ℕ) (r : Result A FieldFault) : Type 0 where
+  pub reads : r ≡ ok_or (of n) f
+  pub named : MatchResult r (λ a. number a ≡ n) (λ _. (a : A) → number a ≢ n)
+
+abbrev pub KindOf : ℕ → Result Kind FieldFault → Type 0
+KindOf = Decodes kind_number kind_of fault.Kind
+
+abbrev pub ModeOf : ℕ → Result Mode FieldFault → Type 0
+ModeOf = Decodes mode_number mode_of fault.Mode
 
 abbrev pub InThreads : ℕ → Type 0
 InThreads t = (1 ≤ t) × (t ≤ max_threads)
@@ -37,16 +49,16 @@ abbrev pub in_threads : ℕ → Bool
 in_threads t = nat_le 1 t && nat_le t max_threads
 
 abbrev pub in_locations : Kind → ℕ → Bool
-in_locations k l = cond (is_access k) (nat_le 1 l && nat_le l max_locations) (l == 0)
+in_locations k l = if is_access k then nat_le 1 l && nat_le l max_locations else l == 0
 
 abbrev pub checked_mode : RawEvent → Kind → Option Mode → Result Event FieldFault
 checked_mode x k None = Err fault.Mode
 checked_mode x k (Some m) =
-    cond (allowed k m)
-    (cond (in_locations k x.location)
-    (Ok (record { thread = x.thread; kind = k; mode = m; location = x.location; writer = x.writer }))
-    (Err fault.Location))
-    (Err fault.Mode)
+    if allowed k m then
+    (if in_locations k x.location then
+    Ok (record { thread = x.thread; kind = k; mode = m; location = x.location; writer = x.writer })
+    else Err fault.Location)
+    else Err fault.Mode
 
 abbrev pub checked_kind : RawEvent → Option Kind → Result Event FieldFault
 checked_kind x None = Err fault.Kind
@@ -54,7 +66,7 @@ checked_kind x (Some k) = checked_mode x k (mode_of x.mode)
 
 -- the event, or the first field that is out of its range
 abbrev pub checked : RawEvent → Result Event FieldFault
-checked x = cond (in_threads x.thread) (checked_kind x (kind_of x.kind)) (Err fault.Thread)
+checked x = if in_threads x.thread then checked_kind x (kind_of x.kind) else Err fault.Thread
 
 -- the first field that is out of its range, where those before it are in theirs
 pub data FirstField (x : RawEvent) : FieldFault → Type 0 where
@@ -70,3 +82,9 @@ Passes x r = (e : Event) → (r ≡ Ok e → Legal e × (raw_of e ≡ x)) × (Le
 -- and a field is named exactly if it is the first that is out of its range
 abbrev pub Fails : RawEvent → Result Event FieldFault → Type 0
 Fails x r = (f : FieldFault) → (r ≡ Err f → FirstField x f) × (FirstField x f → r ≡ Err f)
+
+-- what is made of the numbers x: all three of these
+pub record Checks (x : RawEvent) (r : Result Event FieldFault) : Type 0 where
+  pub reads : r ≡ checked x
+  pub passes : Passes x r
+  pub fails : Fails x r

@@ -1,9 +1,9 @@
 // An event of a run: one atomic access of a thread, or a fence.
 ghost use Rattle.std.specs.Prelude.{◌≡◌};
-ghost use Rattle.events.specs.Events.{is_load, is_store, is_access, acquires, releases, kind_number, kind_of, mode_number, mode_of, Numbered, allowed, writer_of, fitting};
+ghost use Rattle.events.specs.Events.{is_load, is_store, is_access, acquires, releases, allowed, writer_of, fitting};
 
 // What an event does. An update is a successful read-modify-write; a failed one is a read.
-#[derive(Clone, Copy)]
+#[derive(Clone, Copy, Debug, PartialEq, Eq, Hash)]
 pub enum Kind {
     Read,
     Write,
@@ -12,7 +12,7 @@ pub enum Kind {
 }
 
 // How an event is ordered with others.
-#[derive(Clone, Copy)]
+#[derive(Clone, Copy, Debug, PartialEq, Eq, Hash)]
 pub enum Mode {
     Relaxed,
     Acquire,
@@ -21,7 +21,7 @@ pub enum Mode {
 }
 
 // The writer is the number of the store that a load reads from, and 0 where there is none.
-#[derive(Clone, Copy)]
+#[derive(Clone, Copy, Debug, PartialEq, Eq, Hash)]
 pub struct Event {
     pub thread: u8,
     pub kind: Kind,
@@ -31,48 +31,25 @@ pub struct Event {
 }
 
 impl Kind {
-    // The kind with this number, if there is one.
-    pub fn from_number(n: u8) -> Option<Kind>
-        ensures reads { result ≡ kind_of n }
-        ensures named { Numbered kind_number n result }
-    {
-        match n {
-            1 => Some(Kind::Read),
-            2 => Some(Kind::Write),
-            3 => Some(Kind::Update),
-            4 => Some(Kind::Fence),
-            _ => None,
-        }
-    }
-
     // Reads and updates are loads.
     pub fn is_load(&self) -> bool
         ensures { result ≡ is_load self.now }
     {
-        match self {
-            Kind::Read | Kind::Update => true,
-            Kind::Write | Kind::Fence => false,
-        }
+        matches!(self, Kind::Read | Kind::Update)
     }
 
     // Writes and updates are stores.
     pub fn is_store(&self) -> bool
         ensures { result ≡ is_store self.now }
     {
-        match self {
-            Kind::Write | Kind::Update => true,
-            Kind::Read | Kind::Fence => false,
-        }
+        matches!(self, Kind::Write | Kind::Update)
     }
 
     // Everything but a fence reads or writes a location.
     pub fn is_access(&self) -> bool
         ensures { result ≡ is_access self.now }
     {
-        match self {
-            Kind::Read | Kind::Write | Kind::Update => true,
-            Kind::Fence => false,
-        }
+        *self != Kind::Fence
     }
 
     // Whether an event of this kind may have this mode.
@@ -88,38 +65,18 @@ impl Kind {
 }
 
 impl Mode {
-    // The mode with this number, if there is one.
-    pub fn from_number(n: u8) -> Option<Mode>
-        ensures reads { result ≡ mode_of n }
-        ensures named { Numbered mode_number n result }
-    {
-        match n {
-            0 => Some(Mode::Relaxed),
-            1 => Some(Mode::Acquire),
-            2 => Some(Mode::Release),
-            3 => Some(Mode::AcquireRelease),
-            _ => None,
-        }
-    }
-
     // Acquire, or stronger.
     pub fn acquires(&self) -> bool
         ensures { result ≡ acquires self.now }
     {
-        match self {
-            Mode::Acquire | Mode::AcquireRelease => true,
-            Mode::Relaxed | Mode::Release => false,
-        }
+        matches!(self, Mode::Acquire | Mode::AcquireRelease)
     }
 
     // Release, or stronger.
     pub fn releases(&self) -> bool
         ensures { result ≡ releases self.now }
     {
-        match self {
-            Mode::Release | Mode::AcquireRelease => true,
-            Mode::Relaxed | Mode::Acquire => false,
-        }
+        matches!(self, Mode::Release | Mode::AcquireRelease)
     }
 }
 

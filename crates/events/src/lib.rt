@@ -5,3 +5,4 @@ pub mod event;
 pub mod limits;
 pub mod raw;
 pub mod refusal;
+pub mod text;

@@ -1,12 +1,12 @@
-// An event as plain numbers, and the check that makes an event of them.
+// An event as plain numbers, and how an event is made of them.
 ghost use Rattle.std.specs.Prelude.{◌≡◌};
-ghost use Rattle.events.specs.Raw.{checked, fault_number, in_locations, Passes, Fails};
+ghost use Rattle.events.specs.Raw.{fault_number, in_locations, KindOf, ModeOf, Checks};
 
 use crate::event::{Event, Kind, Mode};
 use crate::limits::{MAX_LOCATIONS, MAX_THREADS};
 
 // As logs and records hold it: any numbers at all.
-#[derive(Clone, Copy)]
+#[derive(Clone, Copy, Debug, PartialEq, Eq, Hash)]
 pub struct RawEvent {
     pub thread: u8,
     pub kind: u8,
@@ -16,7 +16,7 @@ pub struct RawEvent {
 }
 
 // The field that rules the numbers out. Each has a number of its own, though a log does not tell them apart.
-#[derive(Clone, Copy)]
+#[derive(Clone, Copy, Debug, PartialEq, Eq, Hash)]
 pub enum FieldFault {
     Thread,
     Kind,
@@ -37,53 +37,76 @@ impl FieldFault {
     }
 }
 
+// The kind with this number, if there is one.
+impl TryFrom<u8> for Kind {
+    type Error = FieldFault;
+
+    ghost try_from_gives = { KindOf };
+
+    fn try_from(n: u8) -> Result<Self, FieldFault> {
+        match n {
+            1 => Ok(Kind::Read),
+            2 => Ok(Kind::Write),
+            3 => Ok(Kind::Update),
+            4 => Ok(Kind::Fence),
+            _ => Err(FieldFault::Kind),
+        }
+    }
+}
+
+// The mode with this number, if there is one.
+impl TryFrom<u8> for Mode {
+    type Error = FieldFault;
+
+    ghost try_from_gives = { ModeOf };
+
+    fn try_from(n: u8) -> Result<Self, FieldFault> {
+        match n {
+            0 => Ok(Mode::Relaxed),
+            1 => Ok(Mode::Acquire),
+            2 => Ok(Mode::Release),
+            3 => Ok(Mode::AcquireRelease),
+            _ => Err(FieldFault::Mode),
+        }
+    }
+}
+
 // Whether an event of this kind may have this location.
 fn has_location(kind: Kind, location: u8) -> bool
     ensures { result ≡ in_locations kind location }
 {
     if kind.is_access() {
-        1 <= location && location <= MAX_LOCATIONS
+        (1..=MAX_LOCATIONS).contains(&location)
     } else {
         location == 0
     }
 }
 
-// The four checks in turn.
-fn check_fields(x: &RawEvent) -> Result<Event, FieldFault>
-    ensures { result ≡ checked x.now }
-{
-    if x.thread == 0 || x.thread > MAX_THREADS {
-        return Err(FieldFault::Thread);
-    }
-    let Some(kind) = Kind::from_number(x.kind) else {
-        return Err(FieldFault::Kind);
-    };
-    let Some(mode) = Mode::from_number(x.mode) else {
-        return Err(FieldFault::Mode);
-    };
-    if !kind.allows(mode) {
-        return Err(FieldFault::Mode);
-    }
-    if !has_location(kind, x.location) {
-        return Err(FieldFault::Location);
-    }
-    Ok(Event {
-        thread: x.thread,
-        kind,
-        mode,
-        location: x.location,
-        writer: x.writer,
-    })
-}
+// The event with these numbers, or the first of thread, kind, mode and location that is out of its range. The writer is
+// taken as it is: whether it fits is a question to the whole run.
+impl TryFrom<RawEvent> for Event {
+    type Error = FieldFault;
 
-impl RawEvent {
-    // The event with these numbers, or the first of thread, kind, mode and location that is out of its range. The
-    // writer is taken as it is: whether it fits is a question to the whole run.
-    pub fn check(&self) -> Result<Event, FieldFault>
-        ensures reads { result ≡ checked self.now }
-        ensures passes { Passes self.now result }
-        ensures fails { Fails self.now result }
-    {
-        check_fields(self)
+    ghost try_from_gives = { Checks };
+
+    fn try_from(x: RawEvent) -> Result<Self, FieldFault> {
+        if x.thread == 0 || x.thread > MAX_THREADS {
+            return Err(FieldFault::Thread);
+        }
+        let kind = Kind::try_from(x.kind)?;
+        let mode = Mode::try_from(x.mode)?;
+        if !kind.allows(mode) {
+            return Err(FieldFault::Mode);
+        }
+        if !has_location(kind, x.location) {
+            return Err(FieldFault::Location);
+        }
+        Ok(Event {
+            thread: x.thread,
+            kind,
+            mode,
+            location: x.location,
+            writer: x.writer,
+        })
     }
 }

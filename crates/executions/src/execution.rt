@@ -5,13 +5,12 @@ ghost use Rattle.events.specs.declared.event.Event.{Event as EventOf};
 ghost use Rattle.executions.specs.Asked.{Asked};
 
 use crate::fault::CheckerFault;
+use crate::iter::Iter;
 use events::event::Event;
 
-// The meaning is the list of the events, and an implementation shows that it is a full run. A question changes nothing.
+// The meaning is the list of the events. A question changes nothing.
 pub trait Execution {
     ghost events: { Self → List EventOf };
-
-    ghost full: { (x : Self) → FullRun (events x) };
 
     fn count(&self) -> usize
         ensures { result ≡ length (events self.now) };
@@ -19,4 +18,16 @@ pub trait Execution {
     // Event number i, from 1 on.
     fn event(&self, i: usize) -> Result<Event, CheckerFault>
         ensures { Asked (events self.now) i result };
+
+    // An implementation shows that its list is a full run.
+    ghost full: { (x : Self) → FullRun (events x) };
+
+    // The events in order.
+    final fn iter(&self) -> Iter<'_, Self>
+    where
+        Self: Sized,
+        ensures { result ≡ events self.now }
+    {
+        Iter::new(self)
+    }
 }

@@ -4,7 +4,7 @@ ghost use Rattle.executions.specs.Faults.{fault_number, fault_place};
 
 use events::refusal::{Layer, Refusal};
 
-#[derive(Clone, Copy)]
+#[derive(Clone, Copy, Debug, PartialEq, Eq, Hash)]
 pub enum CheckerFault {
     // An event number that is 0 or above the count: that number.
     NoEvent(usize),

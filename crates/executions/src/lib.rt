@@ -3,4 +3,5 @@
 
 pub mod execution;
 pub mod fault;
+pub mod iter;
 pub mod relations;

@@ -1,15 +1,30 @@
 // Standard input for programs.
 #![tactic(auto)]
 
-ghost use Rattle.std.specs.Prelude.{◌≤◌, length, IfOk};
+ghost use Rattle.std.specs.Io.KnownBytes.{Consumes, IsAtEnd};
+ghost use Rattle.std.specs.List.{range_with_len};
+ghost use Rattle.std.specs.Prelude.{◌-◌, ◌<◌, ◌≡◌, ◌≤◌, length, min, take, IfOk, IfSome, OnErr, Some, SomeIndex};
 
 use std::io;
 use std::io::Read;
 
 // Fills the buffer from its front, as far as the input goes, and says how far. An input may deliver in parts, as a pipe
-// does; what does not fit is left unread.
-pub fn fill(input: &mut impl Read, buffer: &mut [u8]) -> io::Result<usize>
-    ensures { IfOk result (λ n. n ≤ length buffer.old) }
+// does; what does not fit is left unread. Past the bytes that came, a read may leave anything in the buffer.
+pub fn fill<R: Read>(input: &mut R, buffer: &mut [u8]) -> io::Result<usize>
+    // At any input.
+    ensures bound { IfOk result (λ n. n ≤ length buffer.old) }
+
+    // Where the bytes that the input has left are known.
+    ensures count { IfOk result (λ n. IfSome (R.remaining input.old)
+        (λ xs. n ≡ min (length xs) (length buffer.old))) }
+    ensures bytes { IfOk result (λ n.
+        Consumes (R.remaining input.old) (R.remaining input.new) (take n buffer.new)) }
+    ensures end { IfOk result (λ n. n < length buffer.old → IsAtEnd (R.remaining input.new)) }
+
+    // An error does not say how many bytes came before it, but they are fewer than fit. That it is the error of a read,
+    // no clause can say.
+    ensures none_lost { OnErr result (SomeIndex buffer.new (λ n.
+        Consumes (R.remaining input.old) (R.remaining input.new) (take n buffer.new))) }
 {
     let mut n = 0;
     while n < buffer.len() {
@@ -27,7 +42,7 @@ mod tests {
     use super::*;
     use std::test::Fail;
 
-    // Delivers the numbers from `next` to `last`, one at a time.
+    // Delivers the numbers from `next` on that are below `last`, one at a time.
     #[derive(Drop)]
     struct Trickle {
         next: u8,
@@ -35,6 +50,8 @@ mod tests {
     }
 
     impl Read for Trickle {
+        ghost remaining = { λ t. Some (range_with_len t.next (t.last - t.next)) };
+
         fn read(&mut self, buf: &mut [u8]) -> io::Result<usize> {
             if buf.is_empty() || self.next >= self.last {
                 return Ok(0);

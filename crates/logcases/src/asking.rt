@@ -5,29 +5,18 @@ use executions::relations::{po, rf};
 use runlog::log::Log;
 use runlog::opening::open_log;
 use runlog::sample::two_plus_two_writes;
-use runtext::event::event_text;
-use std::alloc::{AllocError, Global};
+use std::alloc::Global;
 use std::test::Fail;
 
-fn layer_name(layer: Layer) -> &'static str {
-    match layer {
-        Layer::Record => "record",
-        Layer::Log => "log",
-        Layer::Checker => "checker",
-    }
+// Event i as text.
+fn shown(heap: Global, log: &Log, i: usize) -> Result<String, Fail> {
+    let event = log.event(i).map_err(|_| Fail::new("no such event"))?;
+    Ok(event.to_string(heap)?)
 }
 
-// Event i as text, or the refusal.
-fn asked(heap: Global, log: &Log, i: usize) -> Result<String, AllocError> {
-    match log.event(i) {
-        Ok(e) => event_text(heap, &e),
-        Err(fault) => {
-            let layer = layer_name(fault.layer());
-            let number = fault.number();
-            let place = fault.place();
-            format!(in heap; "{layer} {number} {place}")
-        }
-    }
+// The layer, the number and the place of a refusal.
+fn told<R: Refusal>(fault: &R) -> (Layer, u8, usize) {
+    (fault.layer(), fault.number(), fault.place())
 }
 
 #[test]
@@ -41,25 +30,24 @@ fn events_by_number(rt: HostRuntime) -> Result<(), Fail> {
     let mut log = Log::empty();
     assert!(rt; open_log(&bytes, &mut log).is_ok());
     assert_eq!(rt; log.count(), 6);
-    assert_eq!(rt; asked(rt.alloc(), &log, 1)?.as_str(), "T1 W rel L1");
-    assert_eq!(rt; asked(rt.alloc(), &log, 3)?.as_str(), "T1 R acq L2 from 4");
-    assert_eq!(rt; asked(rt.alloc(), &log, 6)?.as_str(), "T2 R acq L1 from 1");
-    assert_eq!(rt; asked(rt.alloc(), &log, 0)?.as_str(), "checker 5 0");
-    assert_eq!(rt; asked(rt.alloc(), &log, 7)?.as_str(), "checker 5 7");
+    assert_eq!(rt; shown(rt.alloc(), &log, 1)?.as_str(), "T1 W rel L1");
+    assert_eq!(rt; shown(rt.alloc(), &log, 3)?.as_str(), "T1 R acq L2 from 4");
+    assert_eq!(rt; shown(rt.alloc(), &log, 6)?.as_str(), "T2 R acq L1 from 1");
+    for i in [0, 7] {
+        let fault = log.event(i).map_err(|fault| told(&fault));
+        assert_eq!(rt; fault.err(), Some((Layer::Checker, 5, i)));
+    }
     Ok(())
 }
 
 #[test]
-fn a_refused_log_leaves_the_place(rt: HostRuntime) -> Result<(), Fail> {
+fn a_refused_log_leaves_the_place(rt: HostRuntime) {
     let bytes = two_plus_two_writes();
     let mut log = Log::empty();
     assert!(rt; open_log(&bytes, &mut log).is_ok());
-    match open_log(&bytes[0..65], &mut log) {
-        Ok(()) => return Err(Fail::new("a cut log opened")),
-        Err(fault) => assert_eq!(rt; layer_name(fault.layer()), "log"),
-    }
+    let refused = open_log(&bytes[..65], &mut log).map_err(|fault| fault.layer());
+    assert_eq!(rt; refused, Err(Layer::Log));
     assert_eq!(rt; log.count(), 6);
-    Ok(())
 }
 
 #[test]
@@ -75,4 +63,18 @@ fn program_order_and_reads_from(rt: HostRuntime) {
             assert_eq!(rt; rf(&log, a, b), (a == 4 && b == 3) || (a == 1 && b == 6));
         }
     }
+}
+
+#[test]
+fn one_event_after_another(rt: HostRuntime) {
+    let bytes = two_plus_two_writes();
+    let mut log = Log::empty();
+    assert_eq!(rt; log.iter().count(), 0);
+    assert!(rt; open_log(&bytes, &mut log).is_ok());
+    assert_eq!(rt; log.iter().count(), 6);
+    assert!(rt;
+        (1..=6usize)
+            .zip(log.iter())
+            .all(|(i, event)| log.event(i) == Ok(event))
+    );
 }

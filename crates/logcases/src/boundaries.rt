@@ -1,6 +1,6 @@
 // Logs that are cut, logs as long as they may be, and every mode at every kind.
-use crate::longest::writes;
-use crate::outcome::opened;
+use crate::bytes::writes;
+use crate::outcome::{Opened, opened};
 use runlog::sample::two_plus_two_writes;
 use std::alloc::{AllocError, Global};
 use std::test::Fail;
@@ -9,21 +9,21 @@ use std::test::Fail;
 fn cut_at_every_byte(rt: HostRuntime) {
     let log = two_plus_two_writes();
     for k in 0..66 {
-        assert_eq!(rt; opened(&log[0..k]), (10, k / 10 * 10));
+        assert_eq!(rt; opened(&log[..k]), Err((10, k / 10 * 10)));
     }
-    assert_eq!(rt; opened(&log), (0, 6));
+    assert_eq!(rt; opened(&log), Ok(6));
 }
 
 #[test]
 fn a_byte_too_many(rt: HostRuntime) -> Result<(), Fail> {
     let mut log = two_plus_two_writes().to_vec(rt.alloc())?;
     log.push(0)?;
-    assert_eq!(rt; opened(log.as_slice()), (10, 66));
+    assert_eq!(rt; opened(log.as_slice()), Err((10, 66)));
     Ok(())
 }
 
 // What opening answers of n writes and the bytes of `tail`.
-fn after_writes(heap: Global, n: usize, tail: &[u8]) -> Result<(u8, usize), AllocError> {
+fn after_writes(heap: Global, n: usize, tail: &[u8]) -> Result<Opened, AllocError> {
     let log = writes(heap, n, tail)?;
     Ok(opened(log.as_slice()))
 }
@@ -31,38 +31,44 @@ fn after_writes(heap: Global, n: usize, tail: &[u8]) -> Result<(u8, usize), Allo
 #[test]
 fn as_long_as_may_be(rt: HostRuntime) -> Result<(), Fail> {
     let end = b"\x04\x00\x02\x00\x00\x02";
-    assert_eq!(rt; after_writes(rt.alloc(), 512, end)?, (0, 512));
+    assert_eq!(rt; after_writes(rt.alloc(), 512, end)?, Ok(512));
     let reads_511 = b"\x08\x00\x01\x00\x01\x01\x00\x01\xff\x01\x04\x00\x02\x00\x00\x02";
-    assert_eq!(rt; after_writes(rt.alloc(), 511, reads_511)?, (0, 512));
+    assert_eq!(rt; after_writes(rt.alloc(), 511, reads_511)?, Ok(512));
     let reads_itself = b"\x08\x00\x01\x00\x01\x03\x00\x01\x00\x02\x04\x00\x02\x00\x00\x02";
-    assert_eq!(rt; after_writes(rt.alloc(), 511, reads_itself)?, (11, 5110));
+    assert_eq!(rt;
+        after_writes(rt.alloc(), 511, reads_itself)?,
+        Err((11, 5110))
+    );
     Ok(())
 }
 
 #[test]
 fn one_event_too_many(rt: HostRuntime) -> Result<(), Fail> {
     let end = b"\x04\x00\x02\x00\x01\x02";
-    assert_eq!(rt; after_writes(rt.alloc(), 513, end)?, (20, 5120));
+    assert_eq!(rt; after_writes(rt.alloc(), 513, end)?, Err((20, 5120)));
     let of_thread_9 = b"\x08\x00\x01\x00\x09\x02\x00\x01\x00\x00";
-    assert_eq!(rt; after_writes(rt.alloc(), 512, of_thread_9)?, (20, 5120));
+    assert_eq!(rt;
+        after_writes(rt.alloc(), 512, of_thread_9)?,
+        Err((20, 5120))
+    );
     let cut_short = b"\x08\x00\x01\x00\x01\x02\x00\x01\x00";
-    assert_eq!(rt; after_writes(rt.alloc(), 512, cut_short)?, (10, 5120));
-    assert_eq!(rt; after_writes(rt.alloc(), 511, of_thread_9)?, (11, 5110));
+    assert_eq!(rt; after_writes(rt.alloc(), 512, cut_short)?, Err((10, 5120)));
+    assert_eq!(rt;
+        after_writes(rt.alloc(), 511, of_thread_9)?,
+        Err((11, 5110))
+    );
     Ok(())
 }
 
 // A write at location 1, and then an event of this kind and mode, which reads from it if it is a load.
-fn second(kind: u8, mode: u8) -> (u8, usize) {
-    let location = if kind == 4 { 0 } else { 1 };
-    let writer = if kind == 1 || kind == 3 { 1 } else { 0 };
+fn second(kind: u8, mode: u8) -> Opened {
+    let location = u8::from(kind != 4);
+    let writer = u8::from(kind == 1 || kind == 3);
     let mut log = *b"\
         \x08\x00\x01\x00\x01\x02\x00\x01\x00\x00\
         \x08\x00\x01\x00\x02\x00\x00\x00\x00\x00\
         \x04\x00\x02\x00\x02\x00";
-    log[15] = kind;
-    log[16] = mode;
-    log[17] = location;
-    log[18] = writer;
+    log[15..19].copy_from_slice(&[kind, mode, location, writer]);
     opened(&log)
 }
 
@@ -78,13 +84,9 @@ const ALLOWED: [[bool; 5]; 6] = [
 
 #[test]
 fn every_mode_at_every_kind(rt: HostRuntime) {
-    for kind in 0..6u8 {
-        for mode in 0..5u8 {
-            let expected = if ALLOWED[kind as usize][mode as usize] {
-                (0, 2)
-            } else {
-                (11, 10)
-            };
+    for (kind, modes) in (0..6u8).zip(ALLOWED) {
+        for (mode, allowed) in (0..5u8).zip(modes) {
+            let expected = if allowed { Ok(2) } else { Err((11, 10)) };
             assert_eq!(rt; second(kind, mode), expected);
         }
     }

@@ -7,9 +7,7 @@ mod asking;
 #[cfg(test)]
 mod boundaries;
 #[cfg(test)]
-mod hex;
-#[cfg(test)]
-mod longest;
+mod bytes;
 #[cfg(test)]
 mod outcome;
 #[cfg(test)]

@@ -1,5 +1,5 @@
 // Logs byte by byte.
-use crate::hex::bytes;
+use crate::bytes::from_hex;
 use crate::outcome::opened;
 use std::alloc::{AllocError, Global};
 use std::test::Fail;
@@ -61,29 +61,24 @@ a writer, then more  | 0800 0100 01010001 0000 0400 0200 0100 00                
 ";
 
 fn answer(heap: Global, bytes: &[u8]) -> Result<String, AllocError> {
-    let (number, place) = opened(bytes);
-    if number == 0 {
-        format!(in heap; "opens {place}")
-    } else {
-        format!(in heap; "refused {number} {place}")
+    match opened(bytes) {
+        Ok(count) => format!(in heap; "opens {count}"),
+        Err((number, place)) => format!(in heap; "refused {number} {place}"),
     }
 }
 
 #[test]
 fn each_row(rt: HostRuntime) -> Result<(), Fail> {
-    let mut rows = 0u8;
-    for row in ROWS.lines() {
-        let mut cells = row.split('|');
-        let name = cells.next().unwrap_or("");
-        let hex = cells.next().unwrap_or("");
-        let expected = cells.next().unwrap_or("").trim();
-        if !name.is_empty() {
-            let log = bytes(rt.alloc(), hex)?;
-            let said = answer(rt.alloc(), log.as_slice())?;
-            assert_eq!(rt; said.as_str(), expected, "{}", name);
-            rows = rows.saturating_add(1);
-        }
+    for row in ROWS.trim().lines() {
+        let mut cells = row.split('|').map(|cell| cell.trim());
+        let (Some(name), Some(hex), Some(expected)) = (cells.next(), cells.next(), cells.next())
+        else {
+            return Err(Fail::new("a row has three cells"));
+        };
+        let log = from_hex(rt.alloc(), hex)?;
+        let said = answer(rt.alloc(), log.as_slice())?;
+        assert_eq!(rt; said.as_str(), expected, "{}", name);
     }
-    assert_eq!(rt; rows, 51);
+    assert_eq!(rt; ROWS.trim().lines().count(), 51);
     Ok(())
 }

@@ -1,7 +1,6 @@
 // The text of logs, character by character.
-use crate::hex::bytes;
-use crate::longest::writes;
-use runtext::run::log_text;
+use crate::bytes::{from_hex, writes};
+use runtext::run::LogText;
 use std::alloc::Global;
 use std::process::Abort;
 use std::test::Fail;
@@ -37,14 +36,14 @@ T7 W rel L10
 ";
 
 fn has_text(rt: &impl Abort, heap: Global, log: &[u8], expected: &str) -> Result<(), Fail> {
-    let text = log_text(heap, log)?;
+    let text = LogText::of(log).to_string(heap)?;
     assert_eq!(rt; text.as_str(), expected);
     Ok(())
 }
 
 #[test]
 fn every_kind_and_mode(rt: HostRuntime) -> Result<(), Fail> {
-    let log = bytes(rt.alloc(), EVERY_KIND)?;
+    let log = from_hex(rt.alloc(), EVERY_KIND)?;
     has_text(&rt, rt.alloc(), log.as_slice(), ITS_TEXT)
 }
 
@@ -52,7 +51,7 @@ fn every_kind_and_mode(rt: HostRuntime) -> Result<(), Fail> {
 fn the_longest_run(rt: HostRuntime) -> Result<(), Fail> {
     let reads_511 = b"\x08\x00\x01\x00\x01\x01\x00\x01\xff\x01\x04\x00\x02\x00\x00\x02";
     let log = writes(rt.alloc(), 511, reads_511)?;
-    let text = log_text(rt.alloc(), log.as_slice())?;
+    let text = LogText::of(log.as_slice()).to_string(rt.alloc())?;
     assert_eq!(rt; text.as_str().lines().count(), 513);
     assert!(rt;
         text.as_str()

@@ -2,13 +2,13 @@
 #![tactic(auto)]
 
 use input::fill;
-use runtext::run::log_text;
+use runtext::run::LogText;
 use std::io;
 
 // The log of the longest run has 5,126 bytes, so what follows the first 8,192 is not read.
 fn main(rt: HostRuntime) -> io::Result<()> {
     let mut buffer = [0u8; 8192];
     let n = fill(&mut rt.stdin(), &mut buffer)?;
-    let text = log_text(rt.alloc(), &buffer[0..n])?;
+    let text = LogText::of(&buffer[..n]).to_string(rt.alloc())?;
     print!(rt; "{text}")
 }

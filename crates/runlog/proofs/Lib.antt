@@ -1,5 +1,6 @@
 pub mod Steps
 pub mod Links
 pub mod Outcomes
+pub mod Recorded
 pub mod Spelled
 pub mod Laws

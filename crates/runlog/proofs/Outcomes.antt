@@ -2,17 +2,18 @@
 use Rattle.std.proofs.Common.{◌≡◌, ℕ, zero, suc, ◌+◌, ◌-◌, ◌<◌, ◌≤◌, true, false, cond, ◌&&◌, eqb, ◌≢◌, List, length, is_ok, Ok, Err, Result, refl, ap, ◌∙◌, ⊎_elim, arith, below_more}
 use Rattle.std.proofs.lemmas.Bool.{cases_Bool, eq-eqb, ne_eqb, eqb-true, eqb-false, and_parts, and_from, cond_both, cond-true, cond-false, both_ways}
 use Rattle.std.proofs.lemmas.Bool.Decides.{nat_tests}
+use Rattle.std.specs.Result.{result_map_both}
 use Rattle.events.specs.Limits.{max_events}
 use Rattle.events.specs.Raw.{checked}
 use Rattle.events.specs.Run.{at, Linked}
 use Rattle.events.specs.declared.event.Event.{Event}
 use Rattle.runlog.specs.Layout.{word, is_event, is_end, start, after_end, raw_at}
-use Rattle.runlog.specs.Reading.{ended, scanned, events_of, linked, linked_up, with_writers, reading}
+use Rattle.runlog.specs.Reading.{ended, scanned, events_of, recorded, linked, linked_up, with_writers, reading}
 use Rattle.runlog.specs.FirstFault.{Sound, Begins, Ends, Closed, FirstFault}
 use Rattle.runlog.specs.FirstFault.FirstFault.{shape, trailing, too_many, field, writer}
 use Rattle.runlog.specs.declared.fault.LogFault.{LogFault}
 use Rattle.runlog.specs.declared.fault.LogFault.TheVariants.{Shape, BadEvent, TooMany}
-use Rattle.runlog.proofs.Steps.{legal_test, test_legal, scanned_end, scanned_full, scanned_bad, scanned_more, links_bad, links_more, links_all}
+use Rattle.runlog.proofs.Steps.{length-events_of, legal_test, test_legal, scanned_end, scanned_full, scanned_bad, scanned_more, links_bad, links_more, links_all}
 use Rattle.runlog.proofs.Links.{linked_true, true_linked, linked_false, false_linked}
 
 -- what the records of a log come to
@@ -85,8 +86,8 @@ module _ (s : List ℕ) where
   pub closed_from_scanned : (n : ℕ) → scanned max_events s 0 ≡ Ok n → Closed s n
   closed_from_scanned n is = rw is at (scanned_outcome max_events 0 refl begins_none)
 
-  with_writers_outcome : (r : Result ℕ LogFault) → Scanned s r → Outcome s (with_writers s r)
-  with_writers_outcome (Ok n) c = links_outcome n n 0 c (omega arith) (λ j h. absurd (omega arith))
+  with_writers_outcome : (r : Result ℕ LogFault) → Scanned s r → Outcome s (with_writers (result_map_both (events_of s) (λ f. f) r))
+  with_writers_outcome (Ok n) c = rw (length-events_of s n) (links_outcome n n 0 c (omega arith) (λ j h. absurd (omega arith)))
   with_writers_outcome (Err f) fault = fault
 
   pub outcome : Outcome s (reading s)
@@ -125,25 +126,34 @@ module _ (s : List ℕ) where
   ended_whole : (n : ℕ) → Ends s n → after_end n ≡ length s → ended s n ≡ Ok n
   ended_whole n e is = cond-true _ _ _ (test_ends n e) ∙ cond-true _ _ _ (eq-eqb (after_end n) (length s) is)
 
-  closed_scanned : (n : ℕ) → Closed s n → scanned max_events s 0 ≡ Ok n
+  pub closed_scanned : (n : ℕ) → Closed s n → scanned max_events s 0 ≡ Ok n
   closed_scanned n c = ended_here n c.begins (end_no_event n c.ends) ∙ ended_whole n c.ends c.whole
 
-  scanned_reading : (r : Result ℕ LogFault) → scanned max_events s 0 ≡ r → reading s ≡ with_writers s r
+  -- what the records come to decides how the reading goes on
+  pub read_on : (r : Result (List Event) LogFault) → recorded s ≡ r → reading s ≡ with_writers r
   unfolding reading
-  scanned_reading r e = ap (with_writers s) e
+  read_on r e = ap with_writers e
+
+  reading_bad : (f : LogFault) → scanned max_events s 0 ≡ Err f → reading s ≡ Err f
+  reading_bad f e = read_on (Err f) (ap (result_map_both (events_of s) (λ g. g)) e)
+
+  reading_good : (n : ℕ) → Closed s n → reading s ≡ linked_up n (events_of s n) 0
+  reading_good n c =
+      read_on (Ok (events_of s n)) (ap (result_map_both (events_of s) (λ g. g)) (closed_scanned n c))
+      ∙ ap (λ m. linked_up m (events_of s n) 0) (length-events_of s n)
 
   pub fault_is : {f : LogFault} → FirstFault s f → reading s ≡ Err f
-  fault_is (shape {n} b none never) = scanned_reading (Err (Shape (start n))) (ended_here n b none ∙ ended_shape n never)
-  fault_is (trailing {n} b e ne) = scanned_reading (Err (Shape (after_end n))) (ended_here n b (end_no_event n e) ∙ ended_trailing n e ne)
-  fault_is (too_many b is) = scanned_reading (Err (TooMany (start max_events))) (scanned_past max_events b ∙ scanned_full s max_events 0 refl is)
+  fault_is (shape {n} b none never) = reading_bad (Shape (start n)) (ended_here n b none ∙ ended_shape n never)
+  fault_is (trailing {n} b e ne) = reading_bad (Shape (after_end n)) (ended_here n b (end_no_event n e) ∙ ended_trailing n e ne)
+  fault_is (too_many b is) = reading_bad (TooMany (start max_events)) (scanned_past max_events b ∙ scanned_full s max_events 0 refl is)
   fault_is (field {n} b less is never) =
       let bad = ⊎_elim (λ t. absurd (never (test_legal s (start n) t))) (λ f. f) (cases_Bool (is_ok (checked (raw_at s (start n))))) in
-      scanned_reading (Err (BadEvent (start n))) (scanned_past n b ∙ scanned_bad s n (max_events - n) (max_events - (n + 1)) (omega arith) is bad)
+      reading_bad (BadEvent (start n)) (scanned_past n b ∙ scanned_bad s n (max_events - n) (max_events - (n + 1)) (omega arith) is bad)
   fault_is (writer {n} {k} c within before never) =
       let es = events_of s n in
-      scanned_reading (Ok n) (closed_scanned n c)
+      reading_good n c
       ∙ (links_past n k (omega arith) before ∙ links_bad es k (n - k) (n - (k + 1)) (omega arith) (false_linked es (k + 1) never))
 
   pub closed_is : (n : ℕ) → Closed s n → ((k : ℕ) → k < n → Linked (events_of s n) (k + 1)) → reading s ≡ Ok (events_of s n)
   closed_is n c all =
-      scanned_reading (Ok n) (closed_scanned n c) ∙ (links_past n n (omega arith) all ∙ links_all (events_of s n) n (n - n) (omega arith))
+      reading_good n c ∙ (links_past n n (omega arith) all ∙ links_all (events_of s n) n (n - n) (omega arith))

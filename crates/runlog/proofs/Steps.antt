@@ -1,19 +1,40 @@
 -- The two passes of the reading, one step at a time.
-use Rattle.std.proofs.Common.{◌≡◌, ℕ, zero, suc, ◌+◌, ◌-◌, ◌<◌, ◌≤◌, Bool, true, false, ◌&&◌, leb, List, length, get_or, is_ok, Some, Ok, Err, refl, ap, ◌∙◌, arith}
+use Rattle.std.proofs.Common.{◌≡◌, ℕ, zero, suc, ◌+◌, ◌-◌, ◌<◌, ◌≤◌, Bool, true, false, cond, List, length, get_or, is_ok, is_some, Some, None, Ok, Err, refl, ap, ◌∙◌, arith}
 use Rattle.std.proofs.lemmas.List.FromFn.{length-map-range_with_len, get_or-map-range_with_len}
-use Rattle.std.proofs.lemmas.Bool.{le-leb, lt-leb}
 use Rattle.std.specs.Result.{result_unwrap_or}
-use Rattle.events.specs.Events.{is_load, writer_of, fitting}
 use Rattle.events.specs.Raw.{checked}
 use Rattle.events.specs.Run.{at, no_event}
 use Rattle.events.specs.declared.event.Event.{Event}
+use Rattle.events.specs.declared.raw.RawEvent.{RawEvent}
 use Rattle.events.proofs.Fields.{checked_legal, legal_checked}
 use Rattle.events.proofs.Numbers.{at_next}
 use Rattle.events.proofs.Results.{ok_value}
-use Rattle.runlog.specs.Layout.{is_event, start, raw_at}
+use Rattle.runlog.specs.Layout.{is_event, start, raw_at, event_record}
 use Rattle.runlog.specs.Reading.{ended, scanned, event_at, events_of, linked, linked_up}
 use Rattle.runlog.specs.FirstFault.{LegalAt, Sound}
 use Rattle.runlog.specs.declared.fault.LogFault.TheVariants.{BadEvent, TooMany}
+
+-- what is there if b holds, and is not there if b does not
+given : {A : Type 0} (b : Bool) (v x : A) → cond b (Some v) None ≡ Some x → (b ≡ true) × (v ≡ x)
+given true v x h = (refl, cc)
+given false v x h = let z : ◌≡◌ {A = ℕ} 0 1 = cc in absurd (omega arith)
+
+missing : {A : Type 0} (b : Bool) (v : A) → cond b (Some v) None ≡ None → b ≡ false
+missing true v h = let z : ◌≡◌ {A = ℕ} 0 1 = cc in absurd (omega arith)
+missing false v h = refl
+
+pub an_event : (s : List ℕ) (p : ℕ) (x : RawEvent) → event_record s p ≡ Some x → (is_event s p ≡ true) × (raw_at s p ≡ x)
+an_event s p x h = given (is_event s p) (raw_at s p) x h
+
+pub no_event_record : (s : List ℕ) (p : ℕ) → event_record s p ≡ None → is_event s p ≡ false
+no_event_record s p h = missing (is_event s p) (raw_at s p) h
+
+pub is_some-event_record : (s : List ℕ) (p : ℕ) → is_some (event_record s p) ≡ is_event s p
+is_some-event_record s p = held (is_event s p) (raw_at s p)
+  where
+    held : {A : Type 0} (b : Bool) (v : A) → is_some (cond b (Some v) None) ≡ b
+    held true v = refl
+    held false v = refl
 
 module _ (s : List ℕ) (n : ℕ) where
   -- no event record is next
@@ -46,6 +67,9 @@ nth_events s n k within = get_or-map-range_with_len (event_at s) 0 n k k no_even
 pub at-events_of : (s : List ℕ) (n k : ℕ) → k < n → at (events_of s n) (k + 1) ≡ event_at s k
 at-events_of s n k within = at_next (events_of s n) k ∙ nth_events s n k within
 
+pub at_number : (s : List ℕ) (n i : ℕ) → 1 ≤ i → i ≤ n → at (events_of s n) i ≡ event_at s (i - 1)
+at_number s n i low high = let same : i - 1 + 1 ≡ i = omega arith in rw same at (at-events_of s n (i - 1) (omega arith))
+
 -- the test of the fields says whether the record's numbers are those of a legal event
 pub legal_test : (s : List ℕ) (p : ℕ) → LegalAt s p → is_ok (checked (raw_at s p)) ≡ true
 legal_test s p here = ap is_ok (legal_checked (raw_at s p) here.0 here.1 here.2)
@@ -63,24 +87,6 @@ sound_checked s k here = let l = here.legal in legal_checked (raw_at s (start k)
 
 pub sound_event : (s : List ℕ) (k : ℕ) (here : Sound s k) → event_at s k ≡ here.legal.0
 sound_event s k here = ap (λ r. result_unwrap_or r no_event) (sound_checked s k here)
-
--- e, which is event i of n, and its writer w
-module _ (s : List ℕ) (n i : ℕ) (e : Event) (w : ℕ) (some : writer_of e ≡ Some w) where
-  abbrev among : Bool
-  among = is_load e.kind && (leb w n && fitting (at (events_of s n) w) w e i)
-
-  linked_some : linked (events_of s n) i e ≡ among
-  linked_some = rw (some, length-events_of s n) refl
-
-  pub linked_past : n < w → linked (events_of s n) i e ≡ false
-  linked_past past = linked_some ∙ rw (lt-leb w n past) (nothing (is_load e.kind))
-    where
-      nothing : (b : Bool) → (b && false) ≡ false
-      nothing true = refl
-      nothing false = refl
-
-  pub linked_in : 1 ≤ w → w ≤ n → linked (events_of s n) i e ≡ (is_load e.kind && fitting (event_at s (w - 1)) w e i)
-  linked_in low high = linked_some ∙ let same : w - 1 + 1 ≡ w = omega arith in rw (le-leb w n high, rw same at (at-events_of s n (w - 1) (omega arith))) refl
 
 -- the writers in turn
 module _ (es : List Event) (i k left : ℕ) (more : k ≡ suc left) where

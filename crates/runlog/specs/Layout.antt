@@ -1,5 +1,5 @@
 -- Where what stands in the bytes of a log.
-use Rattle.std.specs.Prelude.{ℕ, ◌+◌, ◌*◌, Bool, ◌&&◌, List, length, ◌==◌, nat_le, slice_index}
+use Rattle.std.specs.Prelude.{ℕ, ◌+◌, ◌*◌, Bool, ◌&&◌, List, length, Some, None, Option, ◌==◌, nat_le, slice_index, if◌then◌else◌}
 use Rattle.events.specs.declared.raw.RawEvent.{RawEvent}
 
 abbrev pub byte : List ℕ → ℕ → ℕ
@@ -31,3 +31,11 @@ after_end n = start n + 6
 -- the numbers in the event record that begins at p
 abbrev pub raw_at : List ℕ → ℕ → RawEvent
 raw_at s p = record { thread = byte s (p + 4); kind = byte s (p + 5); mode = byte s (p + 6); location = byte s (p + 7); writer = word s (p + 8) }
+
+-- the numbers in the event record that begins at p, if one does
+abbrev pub event_record : List ℕ → ℕ → Option RawEvent
+event_record s p = if is_event s p then Some (raw_at s p) else None
+
+-- the count in the end record that begins at p, if one does
+abbrev pub end_record : List ℕ → ℕ → Option ℕ
+end_record s p = if is_end s p then Some (word s (p + 4)) else None

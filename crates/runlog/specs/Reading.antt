@@ -1,7 +1,7 @@
 -- The reading of a log: the run that its bytes spell, or the first fault.
-use Rattle.std.specs.Prelude.{◌≡◌, ℕ, zero, suc, ◌+◌, Bool, cond, not, ◌&&◌, List, [], map, length, is_ok, Some, None, Ok, Err, Option, Result, ◌==◌, nat_le}
+use Rattle.std.specs.Prelude.{ℕ, zero, suc, ◌+◌, Bool, not, ◌&&◌, List, [], map, length, is_ok, Some, None, Ok, Err, Option, Result, ◌==◌, nat_le, if◌then◌else◌}
 use Rattle.std.specs.List.{range_with_len}
-use Rattle.std.specs.Result.{result_unwrap_or}
+use Rattle.std.specs.Result.{result_map_both, result_unwrap_or}
 use Rattle.events.specs.Limits.{max_events}
 use Rattle.events.specs.Events.{is_load, writer_of, fitting}
 use Rattle.events.specs.Raw.{checked}
@@ -14,17 +14,17 @@ use Rattle.runlog.specs.declared.fault.LogFault.TheVariants.{Shape, BadEvent, To
 -- no event record stands after n of them: an end record that counts n, and nothing after it, or a fault
 abbrev pub ended : List ℕ → ℕ → Result ℕ LogFault
 ended s n =
-    cond (is_end s (start n) && word s (start n + 4) == n)
-    (cond (after_end n == length s) (Ok n) (Err (Shape (after_end n))))
-    (Err (Shape (start n)))
+    if is_end s (start n) && word s (start n + 4) == n then
+    (if after_end n == length s then Ok n else Err (Shape (after_end n)))
+    else Err (Shape (start n))
 
 -- the records in turn, after n events and with at most k more to come: how many events there are, or the first fault
 unfoldable pub scanned : ℕ → List ℕ → ℕ → Result ℕ LogFault
-scanned zero s n = cond (is_event s (start n)) (Err (TooMany (start n))) (ended s n)
+scanned zero s n = if is_event s (start n) then Err (TooMany (start n)) else ended s n
 scanned (suc k) s n =
-    cond (is_event s (start n))
-    (cond (is_ok (checked (raw_at s (start n)))) (scanned k s (n + 1)) (Err (BadEvent (start n))))
-    (ended s n)
+    if is_event s (start n) then
+    (if is_ok (checked (raw_at s (start n))) then scanned k s (n + 1) else Err (BadEvent (start n)))
+    else ended s n
 
 -- the event of the record after k others
 abbrev pub event_at : List ℕ → ℕ → Event
@@ -33,6 +33,13 @@ event_at s k = result_unwrap_or (checked (raw_at s (start k))) no_event
 -- the events of the first n records
 abbrev pub events_of : List ℕ → ℕ → List Event
 events_of s n = map (event_at s) (range_with_len 0 n)
+
+-- the events of all records, where these come to an end
+abbrev pub recorded : List ℕ → Result (List Event) LogFault
+recorded s = result_map_both (events_of s) (λ f. f) (scanned max_events s 0)
+
+abbrev pub events_in : List ℕ → List Event
+events_in s = result_unwrap_or (recorded s) []
 
 -- e, the event with number i, has a writer that fits if it is a load, and none if it is not
 abbrev linked_to : List Event → ℕ → Event → Option ℕ → Bool
@@ -45,23 +52,20 @@ linked es i e = linked_to es i e (writer_of e)
 -- the writers in turn, after those of i events and with k more to come: the run, or the first fault
 unfoldable pub linked_up : ℕ → List Event → ℕ → Result (List Event) LogFault
 linked_up zero es i = Ok es
-linked_up (suc k) es i = cond (linked es (i + 1) (at es (i + 1))) (linked_up k es (i + 1)) (Err (BadEvent (start i)))
+linked_up (suc k) es i = if linked es (i + 1) (at es (i + 1)) then linked_up k es (i + 1) else Err (BadEvent (start i))
 
-abbrev pub with_writers : List ℕ → Result ℕ LogFault → Result (List Event) LogFault
-with_writers s (Ok n) = linked_up n (events_of s n) 0
-with_writers s (Err f) = Err f
+abbrev pub with_writers : Result (List Event) LogFault → Result (List Event) LogFault
+with_writers (Ok es) = linked_up (length es) es 0
+with_writers (Err f) = Err f
 
 -- first the records in turn, then the writers
 unfoldable pub reading : List ℕ → Result (List Event) LogFault
-reading s = with_writers s (scanned max_events s 0)
+reading s = with_writers (recorded s)
 
 -- the run that a log which opens shows
 unfoldable pub shown : List ℕ → List Event
 shown s = result_unwrap_or (reading s) []
 
 -- what opening answers: nothing where there is a run, else the fault
-abbrev pub Answers : Result (List Event) LogFault → Result (Unit {0}) LogFault → Type 0
-Answers (Ok es) (Ok u) = Unit {0}
-Answers (Ok es) (Err g) = ⊥
-Answers (Err f) (Ok u) = ⊥
-Answers (Err f) (Err g) = g ≡ f
+abbrev pub answer : Result (List Event) LogFault → Result (Unit {0}) LogFault
+answer r = result_map_both (λ _. tt) (λ f. f) r

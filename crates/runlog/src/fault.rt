@@ -4,7 +4,7 @@ ghost use Rattle.runlog.specs.Faults.{fault_number, fault_place};
 
 use events::refusal::{Layer, Refusal};
 
-#[derive(Clone, Copy)]
+#[derive(Clone, Copy, Debug, PartialEq, Eq, Hash)]
 pub enum LogFault {
     // What begins here is neither an event record nor an end record that counts right; or it follows the end record.
     Shape(usize),

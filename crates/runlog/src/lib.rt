@@ -5,5 +5,5 @@ pub mod fault;
 mod layout;
 pub mod log;
 pub mod opening;
-mod passes;
+mod records;
 pub mod sample;

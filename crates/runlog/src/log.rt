@@ -9,5 +9,5 @@ ghost use Rattle.runlog.specs.Reading.{reading, shown};
 pub struct Log<'a> {
     pub(crate) bytes: &'a [u8],
     ghost opens: { is_ok (reading bytes.now) ≡ true },
-    ghost full: { ∥ FullRun (shown bytes.now) ∥₁ },
+    ghost full: { FullRun (shown bytes.now) },
 }

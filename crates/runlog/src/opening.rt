@@ -1,13 +1,11 @@
 // Opening a log, and what an opened log answers.
 ghost use Rattle.std.specs.Prelude.{◌≡◌, []};
-ghost use Rattle.events.specs.OneProof.{full_of};
-ghost use Rattle.runlog.specs.Reading.{reading, Answers};
+ghost use Rattle.runlog.specs.Reading.{reading, answer};
 ghost use Rattle.runlog.specs.Opening.{run_of, Holds, Opens, Refuses};
 
 use crate::fault::LogFault;
-use crate::layout::{END_SIZE, EVENT_SIZE};
 use crate::log::Log;
-use crate::passes::{check_log, event_at};
+use crate::records::Records;
 use events::event::Event;
 use executions::execution::Execution;
 use executions::fault::CheckerFault;
@@ -23,35 +21,47 @@ impl<'a> Log<'a> {
     }
 }
 
+// Both passes: nothing where the bytes spell a full run, or the first fault.
+fn check_log(bytes: &[u8]) -> Result<(), LogFault>
+    ensures { result ≡ answer (reading bytes.now) }
+{
+    Records::of(bytes)?.check_writers()
+}
+
 // Opens the bytes as a log into the caller's place, or says what is wrong first and leaves the place as it is.
 pub fn open_log<'a>(bytes: &'a [u8], into: &mut Log<'a>) -> Result<(), LogFault>
-    ensures answers { Answers (reading bytes.now) result }
+    ensures answers { result ≡ answer (reading bytes.now) }
     ensures holds { Holds bytes.entry into.old into.new result }
     ensures opens { Opens bytes.now (run_of into.new) result }
     ensures refuses { Refuses bytes.now result }
 {
-    match check_log(bytes) {
-        Ok(()) => {
-            *into = Log { bytes };
-            Ok(())
-        }
-        Err(fault) => Err(fault),
+    check_log(bytes)?;
+    *into = Log { bytes };
+    Ok(())
+}
+
+impl<'a> Log<'a> {
+    // The bytes as records once more. They are not read again.
+    fn records(&self) -> Records<'a>
+        ensures { result ≡ run_of self.now }
+    {
+        Records { bytes: self.bytes }
     }
 }
 
 impl<'a> Execution for Log<'a> {
     ghost events = { run_of };
 
-    ghost full = { λ l. full_of (run_of l) l.full };
-
     fn count(&self) -> usize {
-        (self.bytes.len() - END_SIZE) / EVENT_SIZE
+        self.records().count()
     }
 
     fn event(&self, i: usize) -> Result<Event, CheckerFault> {
         if i == 0 || i > self.count() {
             return Err(CheckerFault::NoEvent(i));
         }
-        Ok(event_at(self.bytes, i - 1))
+        Ok(self.records().event(i))
     }
+
+    ghost full = { λ l. l.full };
 }

@@ -1,2 +1,1 @@
-pub mod EventText
 pub mod Text

@@ -1,7 +1,7 @@
 -- The text of runs and logs.
 use Rattle.std.specs.Prelude.{◌≡◌, ℕ, List, ◌++◌, length, Ok, Err, codes, decimal, Result}
 use Rattle.std.specs.List.{flat_map}
-use Rattle.runtext.specs.EventText.{event_text}
+use Rattle.events.specs.Text.{event_text, refused_text}
 use Rattle.events.specs.Run.{FullRun}
 use Rattle.events.specs.declared.event.Event.{Event}
 use Rattle.runlog.specs.Faults.{fault_number, fault_place}
@@ -23,7 +23,7 @@ run_text es = lines_text es ++ (decimal (length es) ++ codes " events\n")
 
 -- the number and the place of a refusal
 abbrev pub refusal_text : LogFault → List ℕ
-refusal_text f = codes "log refused " ++ (decimal (fault_number f) ++ (codes " " ++ (decimal (fault_place f) ++ codes "\n")))
+refusal_text f = codes "log " ++ (refused_text (fault_number f) (fault_place f) ++ codes "\n")
 
 -- the run, or the refusal
 abbrev pub log_text : Result (List Event) LogFault → List ℕ

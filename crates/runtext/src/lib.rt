@@ -1,5 +1,4 @@
 // Runs and logs as text.
 #![tactic(auto)]
 
-pub mod event;
 pub mod run;

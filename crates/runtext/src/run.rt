@@ -1,57 +1,80 @@
 // A run as text, a line an event and then how many there are; and so the run of a log.
-ghost use Rattle.std.specs.Prelude.{◌≡◌, IfOk, string_bytes};
-ghost use Rattle.events.specs.Run.{at, Within};
-ghost use Rattle.runtext.specs.Text.{line_text, lines_text, run_text, Tells};
+ghost use Rattle.std.specs.Prelude.{◌≡◌, Some};
+ghost use Rattle.runtext.specs.Text.{run_text, Tells};
 
-use crate::event::event_text;
-use events::refusal::Refusal;
+use events::text::Refused;
 use executions::execution::Execution;
 use runlog::log::Log;
 use runlog::opening::open_log;
-use std::alloc::{AllocError, Global};
+use std::fmt;
+use std::marker::Model;
 
-// The line of event i.
-fn line<E: Execution>(heap: Global, x: &E, i: usize) -> Result<String, AllocError>
-    requires { Within (E.Execution.events x.now) i }
-    ensures { IfOk result (λ t. string_bytes t ≡ line_text (at (E.Execution.events x.now) i)) }
-{
-    let Ok(e) = x.event(i) else { unreachable() };
-    let text = event_text(heap, &e)?;
-    format!(in heap; "{text}\n")
+// The text of a run. A contract sees the characters.
+#[derive(Drop)]
+pub struct RunText<'a, E: Execution> {
+    run: &'a E,
 }
 
-// The lines of all events.
-fn lines<E: Execution>(heap: Global, x: &E) -> Result<String, AllocError>
-    ensures { IfOk result (λ t. string_bytes t ≡ lines_text (E.Execution.events x.now)) }
-{
-    let mut text = String::new(heap);
-    for i in 0..x.count() {
-        let next = line(heap, x, i + 1)?;
-        text.push_str(next.as_str())?;
+impl<'a, E: Execution> Model for RunText<'a, E> {
+    ghost use Rattle.std.specs.Prelude.{ℕ, List};
+    ghost use Rattle.runtext.specs.Text.{run_text};
+
+    ghost Value = { List ℕ };
+
+    ghost view = { λ t. run_text (E.Execution.events t.run.now) };
+}
+
+impl<'a, E: Execution> RunText<'a, E> {
+    pub fn of(run: &'a E) -> RunText<'a, E>
+        ensures { result ≡ run_text (E.Execution.events run.now) }
+    {
+        RunText { run }
     }
-    Ok(text)
 }
 
-// The text of any run.
-pub fn run_text<E: Execution>(heap: Global, x: &E) -> Result<String, AllocError>
-    ensures { IfOk result (λ t. string_bytes t ≡ run_text (E.Execution.events x.now)) }
-{
-    let all = lines(heap, x)?;
-    let n = x.count();
-    format!(in heap; "{all}{n} events\n")
+impl<'a, E: Execution> fmt::Display for RunText<'a, E> {
+    ghost output = { λ t. Some t };
+
+    fn fmt<W: fmt::Write>(&self, f: &mut fmt::Formatter<W>) -> fmt::Result {
+        for event in self.run.iter() {
+            writeln!(f, "{event}")?;
+        }
+        writeln!(f, "{} events", self.run.count())
+    }
 }
 
-// The text of a log: its run, or why it is refused.
-pub fn log_text(heap: Global, bytes: &[u8]) -> Result<String, AllocError>
-    ensures { IfOk result (λ t. Tells bytes.now (string_bytes t)) }
-{
-    let mut log = Log::empty();
-    match open_log(bytes, &mut log) {
-        Ok(()) => run_text(heap, &log),
-        Err(fault) => {
-            let number = fault.number();
-            let place = fault.place();
-            format!(in heap; "log refused {number} {place}\n")
+// The text of a log: its run, or why it is refused. A contract sees the characters.
+#[derive(Drop)]
+pub struct LogText<'a> {
+    bytes: &'a [u8],
+}
+
+impl<'a> Model for LogText<'a> {
+    ghost use Rattle.std.specs.Prelude.{ℕ, List};
+    ghost use Rattle.runlog.specs.Reading.{reading};
+    ghost use Rattle.runtext.specs.Text.{log_text};
+
+    ghost Value = { List ℕ };
+
+    ghost view = { λ t. log_text (reading t.bytes.now) };
+}
+
+impl<'a> LogText<'a> {
+    pub fn of(bytes: &'a [u8]) -> LogText<'a>
+        ensures { Tells bytes.now result }
+    {
+        LogText { bytes }
+    }
+}
+
+impl fmt::Display for LogText<'_> {
+    ghost output = { λ t. Some t };
+
+    fn fmt<W: fmt::Write>(&self, f: &mut fmt::Formatter<W>) -> fmt::Result {
+        let mut log = Log::empty();
+        match open_log(self.bytes, &mut log) {
+            Ok(()) => write!(f, "{}", RunText::of(&log)),
+            Err(fault) => writeln!(f, "log {}", Refused(fault)),
         }
     }
 }

@@ -1,0 +1,88 @@
+// Events as text, such as `T1 R acq L2 from 4`, and refusals as text, such as `refused 10 66`.
+ghost use Rattle.std.specs.Prelude.{◌≡◌, Some};
+ghost use Rattle.events.specs.Text.{kind_letter, mode_word, event_text, refused_text};
+
+use crate::event::{Event, Kind, Mode};
+use crate::refusal::Refusal;
+use std::fmt;
+
+impl Kind {
+    // R, W, U or F.
+    pub fn letter(&self) -> &'static str
+        ensures { result.now ≡ kind_letter self.now }
+    {
+        match self {
+            Kind::Read => "R",
+            Kind::Write => "W",
+            Kind::Update => "U",
+            Kind::Fence => "F",
+        }
+    }
+}
+
+impl Mode {
+    // rlx, acq, rel or acqrel.
+    pub fn word(&self) -> &'static str
+        ensures { result.now ≡ mode_word self.now }
+    {
+        match self {
+            Mode::Relaxed => "rlx",
+            Mode::Acquire => "acq",
+            Mode::Release => "rel",
+            Mode::AcquireRelease => "acqrel",
+        }
+    }
+}
+
+impl fmt::Display for Kind {
+    ghost output = { λ k. Some (kind_letter k) };
+
+    fn fmt<W: fmt::Write>(&self, f: &mut fmt::Formatter<W>) -> fmt::Result {
+        f.write_str(self.letter())
+    }
+}
+
+impl fmt::Display for Mode {
+    ghost output = { λ m. Some (mode_word m) };
+
+    fn fmt<W: fmt::Write>(&self, f: &mut fmt::Formatter<W>) -> fmt::Result {
+        f.write_str(self.word())
+    }
+}
+
+// A fence has no location to show. In a full run only loads have a writer.
+impl fmt::Display for Event {
+    ghost output = { λ e. Some (event_text e) };
+
+    fn fmt<W: fmt::Write>(&self, f: &mut fmt::Formatter<W>) -> fmt::Result {
+        let Event {
+            thread,
+            kind,
+            mode,
+            location,
+            ..
+        } = *self;
+        write!(f, "T{thread} {kind} {mode}")?;
+        if !kind.is_access() {
+            return Ok(());
+        }
+        match self.reads_from() {
+            None => write!(f, " L{location}"),
+            Some(writer) => write!(f, " L{location} from {writer}"),
+        }
+    }
+}
+
+// Any refusal as text: its number and its place.
+#[derive(Drop)]
+pub struct Refused<R>(pub R);
+
+impl<R: Refusal> fmt::Display for Refused<R> {
+    ghost output = { λ r. Some (refused_text (R.number r.0) (R.place r.0)) };
+
+    fn fmt<W: fmt::Write>(&self, f: &mut fmt::Formatter<W>) -> fmt::Result {
+        let number = self.0.number();
+        let place = self.0.place();
+        write!(f, "refused {number} {place}")
+    }
+}

@@ -1,0 +1,13 @@
+use Rattle.std.proofs.Common.{is_ok, sym, ap, ◌∙◌}
+use Rattle.std.proofs.Output.{has_written_of_eq}
+use Rattle.runlog.specs.Reading.{shown}
+use Rattle.runlog.proofs.Laws.{opened, reads_shown}
+use Rattle.runtext.specs.Text.{run_text, log_text}
+use Rattle.runtext.proofs.run.LogTextDisplay.fmt.Goals as goal
+
+pub returns-in-Ok-clause-writes : goal.returns-in-Ok-clause-writes
+returns-in-Ok-clause-writes g c = λ plain ok.
+    let s = c.self.inside.bytes.now in
+    let reads = reads_shown s (opened s c.open_log.result c.open_log.ensures.answers (ap is_ok c.in-Ok.is)) in
+    let run = ap (λ r. run_text (shown r.now)) c.in-Ok.ensures.holds in
+    has_written_of_eq _ _ _ _ _ (c.of.ensures ∙ (run ∙ (sym (ap log_text reads) ∙ c.self.view_is))) (c.write.ensures.writes plain ok)
