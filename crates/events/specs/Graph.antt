@@ -14,7 +14,7 @@ Rf es w r = Load es r × ((at es r).writer ≡ w)
 -- program order is a strict order on the events of the run
 pub record PoOrders (es : List Event) : Type 0 where
   pub within : (a b : ℕ) → Po es a b → Within es a × Within es b
-  pub strict : (a : ℕ) → Po es a a → ⊥
+  pub strict : (a : ℕ) → ¬ Po es a a
   pub joins : (a b c : ℕ) → Po es a b → Po es b c → Po es a c
 
 -- every load reads from exactly one event, which fits

@@ -1,5 +1,5 @@
 -- Events as plain numbers.
-use Rattle.std.specs.Prelude.{◌≡◌, ℕ, ◌≤◌, Bool, true, false, ◌&&◌, Some, None, Ok, Err, Option, Result, ◌==◌, ◌≢◌, nat_le, if◌then◌else◌, MatchResult}
+use Rattle.std.specs.Prelude.{◌≡◌, ◌↔◌, ℕ, ◌≤◌, Bool, true, false, ◌&&◌, Some, None, Ok, Err, Option, Result, ◌==◌, ◌≢◌, nat_le, if◌then◌else◌, MatchResult}
 use Rattle.std.specs.Option.{ok_or}
 use Rattle.events.specs.Limits.{max_threads, max_locations}
 use Rattle.events.specs.Events.{kind_number, kind_of, mode_number, mode_of, allowed, is_access}
@@ -70,20 +70,20 @@ checked x = if in_threads x.thread then checked_kind x (kind_of x.kind) else Err
 
 -- the first field that is out of its range, where those before it are in theirs
 pub data FirstField (x : RawEvent) : FieldFault → Type 0 where
-  thread : (InThreads x.thread → ⊥) → FirstField x fault.Thread
+  thread : ¬ InThreads x.thread → FirstField x fault.Thread
   kind : InThreads x.thread → ((k : Kind) → kind_number k ≢ x.kind) → FirstField x fault.Kind
   mode : (k : Kind) → InThreads x.thread → kind_number k ≡ x.kind → ((m : Mode) → mode_number m ≡ x.mode → allowed k m ≢ true) → FirstField x fault.Mode
-  location : (k : Kind) (m : Mode) → InThreads x.thread → kind_number k ≡ x.kind → mode_number m ≡ x.mode → allowed k m ≡ true → (InLocations k x.location → ⊥) → FirstField x fault.Location
+  location : (k : Kind) (m : Mode) → InThreads x.thread → kind_number k ≡ x.kind → mode_number m ≡ x.mode → allowed k m ≡ true → ¬ InLocations k x.location → FirstField x fault.Location
 
 -- exactly the numbers of a legal event give that event
 abbrev pub Passes : RawEvent → Result Event FieldFault → Type 0
-Passes x r = (e : Event) → (r ≡ Ok e → Legal e × (raw_of e ≡ x)) × (Legal e → raw_of e ≡ x → r ≡ Ok e)
+Passes x r = (e : Event) → (r ≡ Ok e) ↔ (Legal e × (raw_of e ≡ x))
 
 -- and a field is named exactly if it is the first that is out of its range
 abbrev pub Fails : RawEvent → Result Event FieldFault → Type 0
-Fails x r = (f : FieldFault) → (r ≡ Err f → FirstField x f) × (FirstField x f → r ≡ Err f)
+Fails x r = (f : FieldFault) → (r ≡ Err f) ↔ FirstField x f
 
--- what is made of the numbers x: all three of these
+-- r is the answer to the numbers x
 pub record Checks (x : RawEvent) (r : Result Event FieldFault) : Type 0 where
   pub reads : r ≡ checked x
   pub passes : Passes x r

@@ -1,8 +1,8 @@
-// An event of a run: one atomic access of a thread, or a fence.
+//! An event of a run: one atomic access of a thread, or a fence.
 ghost use Rattle.std.specs.Prelude.{◌≡◌};
 ghost use Rattle.events.specs.Events.{is_load, is_store, is_access, acquires, releases, allowed, writer_of, fitting};
 
-// What an event does. An update is a successful read-modify-write; a failed one is a read.
+/// What an event does. An update is a successful read-modify-write; a failed one is a read.
 #[derive(Clone, Copy, Debug, PartialEq, Eq, Hash)]
 pub enum Kind {
     Read,
@@ -11,7 +11,7 @@ pub enum Kind {
     Fence,
 }
 
-// How an event is ordered with others.
+/// How an event is ordered with others.
 #[derive(Clone, Copy, Debug, PartialEq, Eq, Hash)]
 pub enum Mode {
     Relaxed,
@@ -20,7 +20,9 @@ pub enum Mode {
     AcquireRelease,
 }
 
-// The writer is the number of the store that a load reads from, and 0 where there is none.
+/// The writer is the number of the store that a load reads from, and 0 where there is none.
+// Writer and location stay the numbers of a run's definition, with 0 for none; `reads_from` gives the writer as an `Option`.
+// One struct `Event<K = Kind, M = Mode>` would serve `RawEvent` too, at the price of two type parameters on every event.
 #[derive(Clone, Copy, Debug, PartialEq, Eq, Hash)]
 pub struct Event {
     pub thread: u8,
@@ -30,29 +32,30 @@ pub struct Event {
     pub writer: u16,
 }
 
+// A method for each word that the memory models use: `kind.is_among(&LOADS)` in place of each would be no plainer.
 impl Kind {
-    // Reads and updates are loads.
+    /// Reads and updates are loads.
     pub fn is_load(&self) -> bool
         ensures { result ≡ is_load self.now }
     {
         matches!(self, Kind::Read | Kind::Update)
     }
 
-    // Writes and updates are stores.
+    /// Writes and updates are stores.
     pub fn is_store(&self) -> bool
         ensures { result ≡ is_store self.now }
     {
         matches!(self, Kind::Write | Kind::Update)
     }
 
-    // Everything but a fence reads or writes a location.
+    /// Everything but a fence reads or writes a location.
     pub fn is_access(&self) -> bool
         ensures { result ≡ is_access self.now }
     {
         *self != Kind::Fence
     }
 
-    // Whether an event of this kind may have this mode.
+    /// Whether an event of this kind may have this mode.
     pub fn allows(&self, mode: Mode) -> bool
         ensures { result ≡ allowed self.now mode }
     {
@@ -65,14 +68,14 @@ impl Kind {
 }
 
 impl Mode {
-    // Acquire, or stronger.
+    /// Acquire, or stronger.
     pub fn acquires(&self) -> bool
         ensures { result ≡ acquires self.now }
     {
         matches!(self, Mode::Acquire | Mode::AcquireRelease)
     }
 
-    // Release, or stronger.
+    /// Release, or stronger.
     pub fn releases(&self) -> bool
         ensures { result ≡ releases self.now }
     {
@@ -81,7 +84,7 @@ impl Mode {
 }
 
 impl Event {
-    // The number of the event that this one reads from; the stored number 0 means that there is none.
+    /// The number of the event that this one reads from; the stored number 0 means that there is none.
     pub fn reads_from(&self) -> Option<u16>
         ensures { result ≡ writer_of self.now }
     {
@@ -92,7 +95,7 @@ impl Event {
         }
     }
 
-    // Whether this event, whose number is i, can be what `load`, whose number is r, reads from.
+    /// Whether this event, whose number is i, can be what `load`, whose number is r, reads from.
     pub fn fits(&self, i: usize, load: &Event, r: usize) -> bool
         ensures { result ≡ fitting self.now i load.now r }
     {

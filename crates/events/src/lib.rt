@@ -1,4 +1,4 @@
-// What a run is made of: events, the checks on their fields, and the form of every refusal.
+//! What a run is made of: events, the checks on their fields, and the form of every refusal.
 #![tactic(auto)]
 
 pub mod event;

@@ -1,11 +1,11 @@
-// An event as plain numbers, and how an event is made of them.
+//! An event as plain numbers, and how an event is made of them.
 ghost use Rattle.std.specs.Prelude.{◌≡◌};
 ghost use Rattle.events.specs.Raw.{fault_number, in_locations, KindOf, ModeOf, Checks};
 
 use crate::event::{Event, Kind, Mode};
 use crate::limits::{MAX_LOCATIONS, MAX_THREADS};
 
-// As logs and records hold it: any numbers at all.
+/// An event as logs and records hold it: any numbers at all.
 #[derive(Clone, Copy, Debug, PartialEq, Eq, Hash)]
 pub struct RawEvent {
     pub thread: u8,
@@ -15,7 +15,7 @@ pub struct RawEvent {
     pub writer: u16,
 }
 
-// The field that rules the numbers out. Each has a number of its own, though a log does not tell them apart.
+/// The field that rules the numbers out. Each has a number of its own, though a log does not tell them apart.
 #[derive(Clone, Copy, Debug, PartialEq, Eq, Hash)]
 pub enum FieldFault {
     Thread,
@@ -37,7 +37,7 @@ impl FieldFault {
     }
 }
 
-// The kind with this number, if there is one.
+/// The kind with this number, if there is one.
 impl TryFrom<u8> for Kind {
     type Error = FieldFault;
 
@@ -54,7 +54,7 @@ impl TryFrom<u8> for Kind {
     }
 }
 
-// The mode with this number, if there is one.
+/// The mode with this number, if there is one.
 impl TryFrom<u8> for Mode {
     type Error = FieldFault;
 
@@ -82,15 +82,15 @@ fn has_location(kind: Kind, location: u8) -> bool
     }
 }
 
-// The event with these numbers, or the first of thread, kind, mode and location that is out of its range. The writer is
-// taken as it is: whether it fits is a question to the whole run.
+/// The event with these numbers, or the first of thread, kind, mode and location that is out of its range. The writer is
+/// taken as it is: whether it fits is a question to the whole run.
 impl TryFrom<RawEvent> for Event {
     type Error = FieldFault;
 
     ghost try_from_gives = { Checks };
 
     fn try_from(x: RawEvent) -> Result<Self, FieldFault> {
-        if x.thread == 0 || x.thread > MAX_THREADS {
+        if !(1..=MAX_THREADS).contains(&x.thread) {
             return Err(FieldFault::Thread);
         }
         let kind = Kind::try_from(x.kind)?;

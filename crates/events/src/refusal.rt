@@ -1,8 +1,8 @@
-// Every refusal carries a number, a place and the layer that was called.
+//! Every refusal carries a number, a place and the layer that was called.
 ghost use Rattle.std.specs.Prelude.{◌≡◌, ℕ};
 ghost use Rattle.events.specs.declared.refusal.Layer.{Layer as LayerOf};
 
-// The layer whose call was refused. Records have no calls yet.
+/// The layer whose call was refused. Records have no calls yet.
 #[derive(Clone, Copy, Debug, PartialEq, Eq, Hash)]
 pub enum Layer {
     Record,
@@ -10,7 +10,8 @@ pub enum Layer {
     Checker,
 }
 
-// Each layer has one enum of its refusals, which implements this. A case carries what its place is made of.
+/// Each layer has one enum of its refusals, which implements this. A case carries what its place is made of.
+// One impl for all of them would have to look the cases up in a table, and be no plainer than an impl for each.
 pub trait Refusal {
     ghost number: { Self → ℕ };
 
@@ -21,7 +22,7 @@ pub trait Refusal {
     fn number(&self) -> u8
         ensures { result ≡ number self.now };
 
-    // An event number, or a byte of a log; 0 where the refusal names no place.
+    /// An event number, or a byte of a log; 0 where the refusal names no place.
     fn place(&self) -> usize
         ensures { result ≡ place self.now };
 

@@ -1,4 +1,4 @@
-// The refusals of the checker layer.
+//! The refusals of the checker layer.
 ghost use Rattle.events.specs.declared.refusal.Layer.TheVariants.{Checker};
 ghost use Rattle.executions.specs.Faults.{fault_number, fault_place};
 
@@ -6,7 +6,7 @@ use events::refusal::{Layer, Refusal};
 
 #[derive(Clone, Copy, Debug, PartialEq, Eq, Hash)]
 pub enum CheckerFault {
-    // An event number that is 0 or above the count: that number.
+    /// An event number that is 0 or above the count: that number.
     NoEvent(usize),
 }
 

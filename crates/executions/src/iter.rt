@@ -1,4 +1,4 @@
-// The events of an execution, one after another.
+//! The events of an execution, one after another.
 ghost use Rattle.std.specs.Prelude.{◌≡◌, ◌-◌, ◌≤◌, List, drop};
 ghost use Rattle.std.specs.Iterator.{YieldsFirst, item_count};
 ghost use Rattle.events.specs.declared.event.Event.{Event as EventOf};
@@ -7,7 +7,7 @@ use crate::execution::Execution;
 use events::event::Event;
 use std::marker::Model;
 
-// A contract sees the list of the events that are still to come.
+/// A contract sees the list of the events that are still to come.
 #[derive(Drop)]
 pub struct Iter<'a, E: Execution> {
     run: &'a E,

@@ -1,4 +1,4 @@
-// What a run is to everything that judges runs: a count, and an event for each number.
+//! What a run is to everything that judges runs: a count, and an event for each number.
 #![tactic(auto)]
 
 pub mod execution;

@@ -1,11 +1,11 @@
-// The two relations that every execution comes with: program order and reads-from. Besides the answer, each function's
-// contract has a theorem about its relation, in a clause that does not look at the answer.
+//! The two relations that every execution comes with: program order and reads-from. Besides the answer, each function's
+//! contract has a theorem about its relation, in a clause that does not look at the answer.
 ghost use Rattle.std.specs.Prelude.{◌↔◌, IsTrue};
 ghost use Rattle.events.specs.Graph.{Po, Rf, PoOrders, RfReads};
 
 use crate::execution::Execution;
 
-// Whether a comes before b in program order. No pair with a number outside the run does.
+/// Whether a comes before b in program order. No pair with a number outside the run does.
 pub fn po<E: Execution>(x: &E, a: usize, b: usize) -> bool
     ensures decides { IsTrue result ↔ Po (E.Execution.events x.now) a b }
     ensures orders { PoOrders (E.Execution.events x.now) }
@@ -16,7 +16,7 @@ pub fn po<E: Execution>(x: &E, a: usize, b: usize) -> bool
     }
 }
 
-// Whether r reads from w. No pair with a number outside the run does.
+/// Whether r reads from w. No pair with a number outside the run does.
 pub fn rf<E: Execution>(x: &E, w: usize, r: usize) -> bool
     ensures decides { IsTrue result ↔ Rf (E.Execution.events x.now) w r }
     ensures reads { RfReads (E.Execution.events x.now) }

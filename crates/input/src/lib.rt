@@ -1,4 +1,4 @@
-// Standard input for programs.
+//! Standard input for programs.
 #![tactic(auto)]
 
 ghost use Rattle.std.specs.Io.KnownBytes.{Consumes, IsAtEnd};
@@ -8,8 +8,8 @@ ghost use Rattle.std.specs.Prelude.{◌-◌, ◌<◌, ◌≡◌, ◌≤◌, leng
 use std::io;
 use std::io::Read;
 
-// Fills the buffer from its front, as far as the input goes, and says how far. An input may deliver in parts, as a pipe
-// does; what does not fit is left unread. Past the bytes that came, a read may leave anything in the buffer.
+/// Fills the buffer from its front, as far as the input goes, and says how far. An input may deliver in parts, as a pipe
+/// does; what does not fit is left unread. Past the bytes that came, a read may leave anything in the buffer.
 pub fn fill<R: Read>(input: &mut R, buffer: &mut [u8]) -> io::Result<usize>
     // At any input.
     ensures bound { IfOk result (λ n. n ≤ length buffer.old) }
@@ -27,6 +27,7 @@ pub fn fill<R: Read>(input: &mut R, buffer: &mut [u8]) -> io::Result<usize>
         Consumes (R.remaining input.old) (R.remaining input.new) (take n buffer.new))) }
 {
     let mut n = 0;
+    // A `while`, since a read gives as many bytes as it likes: a `for` over the places would need a second way out.
     while n < buffer.len() {
         let got = input.read(&mut buffer[n..])?;
         if got == 0 {

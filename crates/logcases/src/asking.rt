@@ -15,7 +15,7 @@ fn shown(heap: Global, log: &Log, i: usize) -> Result<String, Fail> {
 }
 
 // The layer, the number and the place of a refusal.
-fn told<R: Refusal>(fault: &R) -> (Layer, u8, usize) {
+fn parts<R: Refusal>(fault: &R) -> (Layer, u8, usize) {
     (fault.layer(), fault.number(), fault.place())
 }
 
@@ -30,12 +30,16 @@ fn events_by_number(rt: HostRuntime) -> Result<(), Fail> {
     let mut log = Log::empty();
     assert!(rt; open_log(&bytes, &mut log).is_ok());
     assert_eq!(rt; log.count(), 6);
-    assert_eq!(rt; shown(rt.alloc(), &log, 1)?.as_str(), "T1 W rel L1");
-    assert_eq!(rt; shown(rt.alloc(), &log, 3)?.as_str(), "T1 R acq L2 from 4");
-    assert_eq!(rt; shown(rt.alloc(), &log, 6)?.as_str(), "T2 R acq L1 from 1");
+    for (i, text) in [
+        (1, "T1 W rel L1"),
+        (3, "T1 R acq L2 from 4"),
+        (6, "T2 R acq L1 from 1"),
+    ] {
+        assert_eq!(rt; shown(rt.alloc(), &log, i)?.as_str(), text);
+    }
     for i in [0, 7] {
-        let fault = log.event(i).map_err(|fault| told(&fault));
-        assert_eq!(rt; fault.err(), Some((Layer::Checker, 5, i)));
+        let refused = log.event(i).map_err(|fault| parts(&fault));
+        assert_eq!(rt; refused.err(), Some((Layer::Checker, 5, i)));
     }
     Ok(())
 }

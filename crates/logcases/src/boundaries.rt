@@ -22,6 +22,44 @@ fn a_byte_too_many(rt: HostRuntime) -> Result<(), Fail> {
     Ok(())
 }
 
+// A number of writes, the bytes that follow them, and what opening all that answers.
+type Row = (usize, &'static [u8], Opened);
+
+// 512 events, of which the last is a write, a read of the one before it, and an update of itself.
+const LONGEST: [Row; 3] = [
+    (512, b"\x04\x00\x02\x00\x00\x02", Ok(512)),
+    (
+        511,
+        b"\x08\x00\x01\x00\x01\x01\x00\x01\xff\x01\x04\x00\x02\x00\x00\x02",
+        Ok(512),
+    ),
+    (
+        511,
+        b"\x08\x00\x01\x00\x01\x03\x00\x01\x00\x02\x04\x00\x02\x00\x00\x02",
+        Err((11, 5110)),
+    ),
+];
+
+// A 513th event that is as the others, of thread 9, and cut short; and a 512th of thread 9.
+const TOO_LONG: [Row; 4] = [
+    (513, b"\x04\x00\x02\x00\x01\x02", Err((20, 5120))),
+    (
+        512,
+        b"\x08\x00\x01\x00\x09\x02\x00\x01\x00\x00",
+        Err((20, 5120)),
+    ),
+    (
+        512,
+        b"\x08\x00\x01\x00\x01\x02\x00\x01\x00",
+        Err((10, 5120)),
+    ),
+    (
+        511,
+        b"\x08\x00\x01\x00\x09\x02\x00\x01\x00\x00",
+        Err((11, 5110)),
+    ),
+];
+
 // What opening answers of n writes and the bytes of `tail`.
 fn after_writes(heap: Global, n: usize, tail: &[u8]) -> Result<Opened, AllocError> {
     let log = writes(heap, n, tail)?;
@@ -30,33 +68,17 @@ fn after_writes(heap: Global, n: usize, tail: &[u8]) -> Result<Opened, AllocErro
 
 #[test]
 fn as_long_as_may_be(rt: HostRuntime) -> Result<(), Fail> {
-    let end = b"\x04\x00\x02\x00\x00\x02";
-    assert_eq!(rt; after_writes(rt.alloc(), 512, end)?, Ok(512));
-    let reads_511 = b"\x08\x00\x01\x00\x01\x01\x00\x01\xff\x01\x04\x00\x02\x00\x00\x02";
-    assert_eq!(rt; after_writes(rt.alloc(), 511, reads_511)?, Ok(512));
-    let reads_itself = b"\x08\x00\x01\x00\x01\x03\x00\x01\x00\x02\x04\x00\x02\x00\x00\x02";
-    assert_eq!(rt;
-        after_writes(rt.alloc(), 511, reads_itself)?,
-        Err((11, 5110))
-    );
+    for (n, tail, expected) in LONGEST {
+        assert_eq!(rt; after_writes(rt.alloc(), n, tail)?, expected);
+    }
     Ok(())
 }
 
 #[test]
 fn one_event_too_many(rt: HostRuntime) -> Result<(), Fail> {
-    let end = b"\x04\x00\x02\x00\x01\x02";
-    assert_eq!(rt; after_writes(rt.alloc(), 513, end)?, Err((20, 5120)));
-    let of_thread_9 = b"\x08\x00\x01\x00\x09\x02\x00\x01\x00\x00";
-    assert_eq!(rt;
-        after_writes(rt.alloc(), 512, of_thread_9)?,
-        Err((20, 5120))
-    );
-    let cut_short = b"\x08\x00\x01\x00\x01\x02\x00\x01\x00";
-    assert_eq!(rt; after_writes(rt.alloc(), 512, cut_short)?, Err((10, 5120)));
-    assert_eq!(rt;
-        after_writes(rt.alloc(), 511, of_thread_9)?,
-        Err((11, 5110))
-    );
+    for (n, tail, expected) in TOO_LONG {
+        assert_eq!(rt; after_writes(rt.alloc(), n, tail)?, expected);
+    }
     Ok(())
 }
 

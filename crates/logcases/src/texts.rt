@@ -36,7 +36,7 @@ T7 W rel L10
 ";
 
 fn has_text(rt: &impl Abort, heap: Global, log: &[u8], expected: &str) -> Result<(), Fail> {
-    let text = LogText::of(log).to_string(heap)?;
+    let text = LogText::new(log).to_string(heap)?;
     assert_eq!(rt; text.as_str(), expected);
     Ok(())
 }
@@ -51,7 +51,7 @@ fn every_kind_and_mode(rt: HostRuntime) -> Result<(), Fail> {
 fn the_longest_run(rt: HostRuntime) -> Result<(), Fail> {
     let reads_511 = b"\x08\x00\x01\x00\x01\x01\x00\x01\xff\x01\x04\x00\x02\x00\x00\x02";
     let log = writes(rt.alloc(), 511, reads_511)?;
-    let text = LogText::of(log.as_slice()).to_string(rt.alloc())?;
+    let text = LogText::new(log.as_slice()).to_string(rt.alloc())?;
     assert_eq!(rt; text.as_str().lines().count(), 513);
     assert!(rt;
         text.as_str()
@@ -66,17 +66,22 @@ fn no_events_and_no_log(rt: HostRuntime) -> Result<(), Fail> {
     has_text(&rt, rt.alloc(), b"", "log refused 10 0\n")
 }
 
+// A number of writes, the bytes that follow them, and the text of all that.
+const REFUSED: [(usize, &[u8], &str); 3] = [
+    (3, b"", "log refused 10 30\n"),
+    (
+        2,
+        b"\x08\x00\x01\x00\x09\x02\x00\x01\x00\x00",
+        "log refused 11 20\n",
+    ),
+    (513, b"", "log refused 20 5120\n"),
+];
+
 #[test]
 fn each_refusal(rt: HostRuntime) -> Result<(), Fail> {
-    let cut = writes(rt.alloc(), 3, b"")?;
-    has_text(&rt, rt.alloc(), cut.as_slice(), "log refused 10 30\n")?;
-    let of_thread_9 = writes(rt.alloc(), 2, b"\x08\x00\x01\x00\x09\x02\x00\x01\x00\x00")?;
-    has_text(
-        &rt,
-        rt.alloc(),
-        of_thread_9.as_slice(),
-        "log refused 11 20\n",
-    )?;
-    let many = writes(rt.alloc(), 513, b"")?;
-    has_text(&rt, rt.alloc(), many.as_slice(), "log refused 20 5120\n")
+    for (n, tail, expected) in REFUSED {
+        let log = writes(rt.alloc(), n, tail)?;
+        has_text(&rt, rt.alloc(), log.as_slice(), expected)?;
+    }
+    Ok(())
 }

@@ -1,4 +1,4 @@
-// Prints the run whose log comes on standard input, a line an event, or why the log is refused.
+//! Prints the run whose log comes on standard input, a line an event, or why the log is refused.
 #![tactic(auto)]
 
 use input::fill;
@@ -9,6 +9,6 @@ use std::io;
 fn main(rt: HostRuntime) -> io::Result<()> {
     let mut buffer = [0u8; 8192];
     let n = fill(&mut rt.stdin(), &mut buffer)?;
-    let text = LogText::of(&buffer[..n]).to_string(rt.alloc())?;
+    let text = LogText::new(&buffer[..n]).to_string(rt.alloc())?;
     print!(rt; "{text}")
 }

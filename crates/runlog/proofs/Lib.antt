@@ -1,5 +1,4 @@
 pub mod Steps
-pub mod Links
 pub mod Outcomes
 pub mod Recorded
 pub mod Spelled

@@ -36,12 +36,12 @@ pub record Closed (s : List ℕ) (n : ℕ) : Type 0 where
 
 pub data FirstFault (s : List ℕ) : LogFault → Type 0 where
   -- neither an event record nor an end record that counts right: cut short, of another length and kind, or miscounted
-  shape : {n : ℕ} → Begins s n → is_event s (start n) ≡ false → (Ends s n → ⊥) → FirstFault s (Shape (start n))
+  shape : {n : ℕ} → Begins s n → is_event s (start n) ≡ false → ¬ Ends s n → FirstFault s (Shape (start n))
   -- bytes after the end
   trailing : {n : ℕ} → Begins s n → Ends s n → after_end n ≢ length s → FirstFault s (Shape (after_end n))
   -- an event record more than a run may have
   too_many : Begins s max_events → is_event s (start max_events) ≡ true → FirstFault s (TooMany (start max_events))
   -- an event record with a field out of its range
-  field : {n : ℕ} → Begins s n → n < max_events → is_event s (start n) ≡ true → (LegalAt s (start n) → ⊥) → FirstFault s (BadEvent (start n))
+  field : {n : ℕ} → Begins s n → n < max_events → is_event s (start n) ≡ true → ¬ LegalAt s (start n) → FirstFault s (BadEvent (start n))
   -- a load without a writer that fits, or another event with one, in the record after k others
-  writer : {n k : ℕ} → Closed s n → k < n → ((j : ℕ) → j < k → Linked (events_of s n) (j + 1)) → (Linked (events_of s n) (k + 1) → ⊥) → FirstFault s (BadEvent (start k))
+  writer : {n k : ℕ} → Closed s n → k < n → ((j : ℕ) → j < k → Linked (events_of s n) (j + 1)) → ¬ Linked (events_of s n) (k + 1) → FirstFault s (BadEvent (start k))

@@ -1,6 +1,6 @@
 -- What opening a log means.
 use Rattle.std.specs.Borrow.{Bor}
-use Rattle.std.specs.Prelude.{◌≡◌, ℕ, true, List, is_ok, Ok, Err, Result}
+use Rattle.std.specs.Prelude.{◌≡◌, ◌↔◌, ℕ, List, Ok, Err, Result, IsOk}
 use Rattle.events.specs.Run.{FullRun}
 use Rattle.events.specs.declared.event.Event.{Event}
 use Rattle.runlog.specs.Spelling.{spelling}
@@ -20,11 +20,8 @@ Holds bytes old new (Err f) = new ≡ old
 
 -- the bytes s open, and the caller's place then shows the run x, exactly when s is the spelling of x and x is full
 abbrev pub Opens : List ℕ → List Event → Result (Unit {0}) LogFault → Type 0
-Opens s shows r =
-    (x : List Event)
-    → (is_ok r ≡ true → shows ≡ x → (s ≡ spelling x) × FullRun x)
-    × (s ≡ spelling x → FullRun x → (is_ok r ≡ true) × (shows ≡ x))
+Opens s shows r = (x : List Event) → (IsOk r × (shows ≡ x)) ↔ ((s ≡ spelling x) × FullRun x)
 
 -- they are refused for exactly the first fault
 abbrev pub Refuses : List ℕ → Result (Unit {0}) LogFault → Type 0
-Refuses s r = (f : LogFault) → (r ≡ Err f → FirstFault s f) × (FirstFault s f → r ≡ Err f)
+Refuses s r = (f : LogFault) → (r ≡ Err f) ↔ FirstFault s f

@@ -1,4 +1,4 @@
-// The refusals of the log layer. Each place is a byte of the log, counted from 0.
+//! The refusals of the log layer. Each place is a byte of the log, counted from 0.
 ghost use Rattle.events.specs.declared.refusal.Layer.TheVariants.{Log as LogLayer};
 ghost use Rattle.runlog.specs.Faults.{fault_number, fault_place};
 
@@ -6,11 +6,11 @@ use events::refusal::{Layer, Refusal};
 
 #[derive(Clone, Copy, Debug, PartialEq, Eq, Hash)]
 pub enum LogFault {
-    // What begins here is neither an event record nor an end record that counts right; or it follows the end record.
+    /// What begins here is neither an event record nor an end record that counts right; or it follows the end record.
     Shape(usize),
-    // The event whose record begins here has a field out of its range, or a writer that it may not have.
+    /// The event whose record begins here has a field out of its range, or a writer that it may not have.
     BadEvent(usize),
-    // The event whose record begins here is one more than a run may have.
+    /// The event whose record begins here is one more than a run may have.
     TooMany(usize),
 }
 

@@ -1,6 +1,6 @@
-// The byte layout of a log, as questions to its bytes. Every record begins with two numbers of two bytes, the low byte
-// first: its length, which counts the bytes after itself, and its kind. An event record goes on with thread, kind, mode and
-// location, a byte each, and the writer in two bytes; the end record with the number of events in two bytes.
+//! The byte layout of a log, as questions to its bytes. Every record begins with two numbers of two bytes, the low byte
+//! first: its length, which counts the bytes after itself, and its kind. An event record goes on with thread, kind, mode and
+//! location, a byte each, and the writer in two bytes; the end record with the number of events in two bytes.
 ghost use Rattle.std.specs.Prelude.{◌≡◌};
 ghost use Rattle.runlog.specs.Layout.{event_record, end_record};
 
@@ -11,6 +11,8 @@ pub(crate) const EVENT_SIZE: usize = 10;
 
 // An end record: length 4 and kind 2, so 6 bytes in all.
 pub(crate) const END_SIZE: usize = 6;
+
+// Two layouts and two functions: one over the header would still have to read two different bodies.
 
 // The numbers in the event record that begins at p, if one does, with all its bytes.
 pub(crate) fn event_record(s: &[u8], p: usize) -> Option<RawEvent>

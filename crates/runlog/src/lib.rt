@@ -1,4 +1,4 @@
-// The log of a run: its byte layout, what is refused, and an opened log as an execution.
+//! The log of a run: its byte layout, what is refused, and an opened log as an execution.
 #![tactic(auto)]
 
 pub mod fault;

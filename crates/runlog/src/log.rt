@@ -1,13 +1,57 @@
-// An opened log: the caller's bytes, which spell a full run. It keeps no copy of them.
-ghost use Rattle.std.specs.Prelude.{◌≡◌, true, is_ok};
+//! An opened log: the caller's bytes, which spell a full run. It keeps no copy of them.
+ghost use Rattle.std.specs.Prelude.{IsOk};
 ghost use Rattle.events.specs.Run.{FullRun};
 ghost use Rattle.runlog.specs.Reading.{reading, shown};
 
-// `opens` says that the bytes read as a run, and `full` that this run is full. The second is truncated, since a ghost
-// field's fact must be seen to hold in one way at most; `full_of` takes it out again.
+use crate::records::Records;
+use events::event::Event;
+use executions::execution::Execution;
+use executions::fault::CheckerFault;
+
+/// `opens` says that the bytes read as a run, and `full` that this run is full.
 #[derive(Drop)]
 pub struct Log<'a> {
     pub(crate) bytes: &'a [u8],
-    ghost opens: { is_ok (reading bytes.now) ≡ true },
+    ghost opens: { IsOk (reading bytes.now) },
     ghost full: { FullRun (shown bytes.now) },
+}
+
+impl<'a> Log<'a> {
+    ghost use Rattle.std.specs.Prelude.{◌≡◌, []};
+    ghost use Rattle.runlog.specs.Opening.{run_of};
+
+    /// The log of the run without events: what a caller holds before a log is opened into its place.
+    pub fn empty() -> Log<'a>
+        ensures { run_of result ≡ [] }
+    {
+        Log {
+            bytes: &[4, 0, 2, 0, 0, 0],
+        }
+    }
+
+    // The bytes as records once more. They are not read again.
+    fn records(&self) -> Records<'a>
+        ensures { result ≡ run_of self.now }
+    {
+        Records { bytes: self.bytes }
+    }
+}
+
+impl<'a> Execution for Log<'a> {
+    ghost use Rattle.runlog.specs.Opening.{run_of};
+
+    ghost events = { run_of };
+
+    fn count(&self) -> usize {
+        self.records().count()
+    }
+
+    fn event(&self, i: usize) -> Result<Event, CheckerFault> {
+        if i == 0 || i > self.count() {
+            return Err(CheckerFault::NoEvent(i));
+        }
+        Ok(self.records().event(i))
+    }
+
+    ghost full = { λ l. l.full };
 }

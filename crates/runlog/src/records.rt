@@ -1,4 +1,4 @@
-// The records of a log in turn, and then the writers of its events in turn. Event i is in the record after i - 1 others.
+//! The records of a log in turn, and then the writers of its events in turn. Event i is in the record after i - 1 others.
 ghost use Rattle.std.specs.Prelude.{◌≡◌, ◌≤◌, length};
 ghost use Rattle.events.specs.Limits.{max_events};
 ghost use Rattle.events.specs.Run.{at, Within};
@@ -10,7 +10,7 @@ use events::event::Event;
 use events::limits::MAX_EVENTS;
 use std::marker::Model;
 
-// The number n of events once more, if an end record that counts them comes next and ends the log.
+// n, if the record after n event records is an end record that counts them, and ends the log.
 fn end_of(s: &[u8], n: usize) -> Result<usize, LogFault>
     requires { n ≤ max_events }
     ensures { result ≡ ended s.now n }
@@ -65,22 +65,28 @@ impl<'a> Model for Records<'a> {
     ghost invariant = { λ r. IsOk (scanned max_events r.bytes.now 0) };
 }
 
-impl<'a> Records<'a> {
-    // The records of these bytes, or their first fault.
-    pub(crate) fn of(bytes: &'a [u8]) -> Result<Records<'a>, LogFault>
-        ensures { result ≡ recorded bytes.now }
-    {
+// The records of these bytes, or their first fault.
+impl<'a> TryFrom<&'a [u8]> for Records<'a> {
+    type Error = LogFault;
+
+    ghost try_from_gives = { λ bytes r. r ≡ recorded bytes.now };
+
+    fn try_from(bytes: &'a [u8]) -> Result<Self, LogFault> {
         scan(bytes)?;
         Ok(Records { bytes })
     }
+}
 
+impl<'a> Records<'a> {
+    // How many there are.
     pub(crate) fn count(&self) -> usize
-        ensures all { result ≡ length self.now }
-        ensures few { result ≤ max_events }
+        ensures length { result ≡ length self.now }
+        ensures bound { result ≤ max_events }
     {
         (self.bytes.len() - END_SIZE) / EVENT_SIZE
     }
 
+    // Event i, from 1 on.
     pub(crate) fn event(&self, i: usize) -> Event
         requires { Within self.now i }
         ensures { result ≡ at self.now i }

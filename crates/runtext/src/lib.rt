@@ -1,4 +1,4 @@
-// Runs and logs as text.
+//! Runs and logs as text.
 #![tactic(auto)]
 
 pub mod run;

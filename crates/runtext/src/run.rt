@@ -1,4 +1,4 @@
-// A run as text, a line an event and then how many there are; and so the run of a log.
+//! A run as text, a line an event and then how many there are; and so the run of a log.
 ghost use Rattle.std.specs.Prelude.{◌≡◌, Some};
 ghost use Rattle.runtext.specs.Text.{run_text, Tells};
 
@@ -9,7 +9,7 @@ use runlog::opening::open_log;
 use std::fmt;
 use std::marker::Model;
 
-// The text of a run. A contract sees the characters.
+/// The text of a run. A contract sees the characters.
 #[derive(Drop)]
 pub struct RunText<'a, E: Execution> {
     run: &'a E,
@@ -25,7 +25,8 @@ impl<'a, E: Execution> Model for RunText<'a, E> {
 }
 
 impl<'a, E: Execution> RunText<'a, E> {
-    pub fn of(run: &'a E) -> RunText<'a, E>
+    /// The text of this run.
+    pub fn new(run: &'a E) -> RunText<'a, E>
         ensures { result ≡ run_text (E.Execution.events run.now) }
     {
         RunText { run }
@@ -43,7 +44,7 @@ impl<'a, E: Execution> fmt::Display for RunText<'a, E> {
     }
 }
 
-// The text of a log: its run, or why it is refused. A contract sees the characters.
+/// The text of a log: its run, or why it is refused. A contract sees the characters.
 #[derive(Drop)]
 pub struct LogText<'a> {
     bytes: &'a [u8],
@@ -60,20 +61,21 @@ impl<'a> Model for LogText<'a> {
 }
 
 impl<'a> LogText<'a> {
-    pub fn of(bytes: &'a [u8]) -> LogText<'a>
+    /// The text of these bytes.
+    pub fn new(bytes: &'a [u8]) -> LogText<'a>
         ensures { Tells bytes.now result }
     {
         LogText { bytes }
     }
 }
 
-impl fmt::Display for LogText<'_> {
+impl<'a> fmt::Display for LogText<'a> {
     ghost output = { λ t. Some t };
 
     fn fmt<W: fmt::Write>(&self, f: &mut fmt::Formatter<W>) -> fmt::Result {
         let mut log = Log::empty();
         match open_log(self.bytes, &mut log) {
-            Ok(()) => write!(f, "{}", RunText::of(&log)),
+            Ok(()) => write!(f, "{}", RunText::new(&log)),
             Err(fault) => writeln!(f, "log {}", Refused(fault)),
         }
     }

@@ -2,8 +2,8 @@ use Rattle.std.proofs.Common.{rules}
 use Rattle.events.proofs.Fields.{checks}
 use Rattle.events.proofs.raw.EventTryFromRawEvent.try_from.Goals as goal
 
-pub returns-then-x-eq0 : goal.returns-then-x-eq0
-returns-then-x-eq0 c = checks _ _ (search rules)
+pub returns-then-not-contains : goal.returns-then-not-contains
+returns-then-not-contains c = checks _ _ (search rules)
 
 pub returns-in_err-kind : goal.returns-in_err-kind
 returns-in_err-kind c = checks _ _ (search rules)

@@ -10,4 +10,4 @@ returns-in-Ok-clause-writes g c = λ plain ok.
     let s = c.self.inside.bytes.now in
     let reads = reads_shown s (opened s c.open_log.result c.open_log.ensures.answers (ap is_ok c.in-Ok.is)) in
     let run = ap (λ r. run_text (shown r.now)) c.in-Ok.ensures.holds in
-    has_written_of_eq _ _ _ _ _ (c.of.ensures ∙ (run ∙ (sym (ap log_text reads) ∙ c.self.view_is))) (c.write.ensures.writes plain ok)
+    has_written_of_eq _ _ _ _ _ (c.new.ensures ∙ (run ∙ (sym (ap log_text reads) ∙ c.self.view_is))) (c.write.ensures.writes plain ok)
