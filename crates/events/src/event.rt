@@ -22,7 +22,8 @@ pub enum Mode {
 
 /// The writer is the number of the store that a load reads from, and 0 where there is none.
 // Writer and location stay the numbers of a run's definition, with 0 for none; `reads_from` gives the writer as an `Option`.
-// One struct `Event<K = Kind, M = Mode>` would serve `RawEvent` too, at the price of two type parameters on every event.
+// One struct `Event<K = Kind, M = Mode>` would serve `RawEvent` too, but be no plainer: each impl, derive and definition
+// over events would have two parameters more.
 #[derive(Clone, Copy, Debug, PartialEq, Eq, Hash)]
 pub struct Event {
     pub thread: u8,
@@ -67,6 +68,7 @@ impl Kind {
     }
 }
 
+// As of a kind, a method for each word.
 impl Mode {
     /// Acquire, or stronger.
     pub fn acquires(&self) -> bool

@@ -78,6 +78,7 @@ fn has_location(kind: Kind, location: u8) -> bool
     if kind.is_access() {
         (1..=MAX_LOCATIONS).contains(&location)
     } else {
+        // The number of a run's definition for no location.
         location == 0
     }
 }

@@ -11,7 +11,8 @@ pub enum Layer {
 }
 
 /// Each layer has one enum of its refusals, which implements this. A case carries what its place is made of.
-// One impl for all of them would have to look the cases up in a table, and be no plainer than an impl for each.
+// An impl for each enum, since each has cases, numbers and places of its own; one for all would be a table of them, no
+// plainer.
 pub trait Refusal {
     ghost number: { Self → ℕ };
 

@@ -7,7 +7,7 @@ use crate::event::{Event, Kind, Mode};
 use crate::refusal::Refusal;
 use std::fmt;
 
-// These two are functions besides what `{}` prints, since they cannot fail, as a `fmt` may.
+// These two stand beside what `{}` prints by a rule of the project: they cannot fail, and a `fmt` may.
 impl Kind {
     /// R, W, U or F.
     pub fn letter(&self) -> &'static str

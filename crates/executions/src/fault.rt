@@ -1,8 +1,13 @@
 //! The refusals of the checker layer.
 ghost use Rattle.events.specs.declared.refusal.Layer.TheVariants.{Checker};
+ghost use Rattle.std.specs.Prelude.{Some};
+ghost use Rattle.events.specs.Text.{refused_text};
 ghost use Rattle.executions.specs.Faults.{fault_number, fault_place};
 
 use events::refusal::{Layer, Refusal};
+use events::text::Refused;
+use std::error::Error;
+use std::fmt;
 
 #[derive(Clone, Copy, Debug, PartialEq, Eq, Hash)]
 pub enum CheckerFault {
@@ -33,3 +38,13 @@ impl Refusal for CheckerFault {
         Layer::Checker
     }
 }
+
+impl fmt::Display for CheckerFault {
+    ghost output = { λ f. Some (refused_text (fault_number f) (fault_place f)) };
+
+    fn fmt<W: fmt::Write>(&self, f: &mut fmt::Formatter<W>) -> fmt::Result {
+        write!(f, "{}", Refused(*self))
+    }
+}
+
+impl Error for CheckerFault {}

@@ -8,6 +8,8 @@ use events::event::Event;
 use std::marker::Model;
 
 /// A contract sees the list of the events that are still to come.
+// A type of its own with a number that it keeps, since an `impl Iterator` as the result of a trait's method is not proved
+// yet.
 #[derive(Drop)]
 pub struct Iter<'a, E: Execution> {
     run: &'a E,

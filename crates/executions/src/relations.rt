@@ -21,5 +21,6 @@ pub fn rf<E: Execution>(x: &E, w: usize, r: usize) -> bool
     ensures decides { IsTrue result ↔ Rf (E.Execution.events x.now) w r }
     ensures reads { RfReads (E.Execution.events x.now) }
 {
+    // The stored number: 0 is that of no event, so no `Option` of it is asked for.
     x.event(r).is_ok_and(|load| load.kind.is_load() && usize::from(load.writer) == w)
 }

@@ -43,18 +43,18 @@ mod tests {
     use super::*;
     use std::test::Fail;
 
-    // Delivers the numbers from `next` on that are below `last`, one at a time.
+    // Delivers the numbers from `next` on that are below `end`, one at a time.
     #[derive(Drop)]
     struct Trickle {
         next: u8,
-        last: u8,
+        end: u8,
     }
 
     impl Read for Trickle {
-        ghost remaining = { λ t. Some (range_with_len t.next (t.last - t.next)) };
+        ghost remaining = { λ t. Some (range_with_len t.next (t.end - t.next)) };
 
         fn read(&mut self, buf: &mut [u8]) -> io::Result<usize> {
-            if buf.is_empty() || self.next >= self.last {
+            if buf.is_empty() || self.next >= self.end {
                 return Ok(0);
             }
             buf[0] = self.next;
@@ -66,7 +66,7 @@ mod tests {
     #[test]
     fn goes_on_to_the_end_of_the_input(rt: HostRuntime) -> Result<(), Fail> {
         let mut buffer = [0; 8];
-        let n = fill(&mut Trickle { next: 1, last: 6 }, &mut buffer)?;
+        let n = fill(&mut Trickle { next: 1, end: 6 }, &mut buffer)?;
         assert_eq!(rt; n, 5);
         assert_eq!(rt; buffer, [1, 2, 3, 4, 5, 0, 0, 0]);
         Ok(())
@@ -75,7 +75,7 @@ mod tests {
     #[test]
     fn leaves_what_does_not_fit(rt: HostRuntime) -> Result<(), Fail> {
         let mut buffer = [0; 4];
-        let mut input = Trickle { next: 1, last: 9 };
+        let mut input = Trickle { next: 1, end: 9 };
         assert_eq!(rt; fill(&mut input, &mut buffer)?, 4);
         assert_eq!(rt; buffer, [1, 2, 3, 4]);
         assert_eq!(rt; input.next, 5);

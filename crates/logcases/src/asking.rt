@@ -8,6 +8,11 @@ use runlog::sample::two_plus_two_writes;
 use std::alloc::Global;
 use std::test::Fail;
 
+// The sample, opened.
+fn sample(bytes: &[u8]) -> Result<Log<'_>, Fail> {
+    Log::try_from(bytes).map_err(|_| Fail::new("the sample does not open"))
+}
+
 // Event i as text.
 fn shown(heap: Global, log: &Log, i: usize) -> Result<String, Fail> {
     let event = log.event(i).map_err(|_| Fail::new("no such event"))?;
@@ -27,8 +32,7 @@ fn no_events_at_first(rt: HostRuntime) {
 #[test]
 fn events_by_number(rt: HostRuntime) -> Result<(), Fail> {
     let bytes = two_plus_two_writes();
-    let mut log = Log::empty();
-    assert!(rt; open_log(&bytes, &mut log).is_ok());
+    let log = sample(&bytes)?;
     assert_eq!(rt; log.count(), 6);
     for (i, text) in [
         (1, "T1 W rel L1"),
@@ -55,10 +59,9 @@ fn a_refused_log_leaves_the_place(rt: HostRuntime) {
 }
 
 #[test]
-fn program_order_and_reads_from(rt: HostRuntime) {
+fn program_order_and_reads_from(rt: HostRuntime) -> Result<(), Fail> {
     let bytes = two_plus_two_writes();
-    let mut log = Log::empty();
-    assert!(rt; open_log(&bytes, &mut log).is_ok());
+    let log = sample(&bytes)?;
     for a in 0..8usize {
         for b in 0..8usize {
             let one = 1 <= a && a < b && b <= 3;
@@ -67,18 +70,17 @@ fn program_order_and_reads_from(rt: HostRuntime) {
             assert_eq!(rt; rf(&log, a, b), (a == 4 && b == 3) || (a == 1 && b == 6));
         }
     }
+    Ok(())
 }
 
 #[test]
-fn one_event_after_another(rt: HostRuntime) {
+fn one_event_after_another(rt: HostRuntime) -> Result<(), Fail> {
+    assert_eq!(rt; Log::empty().iter().count(), 0);
     let bytes = two_plus_two_writes();
-    let mut log = Log::empty();
-    assert_eq!(rt; log.iter().count(), 0);
-    assert!(rt; open_log(&bytes, &mut log).is_ok());
+    let log = sample(&bytes)?;
     assert_eq!(rt; log.iter().count(), 6);
-    assert!(rt;
-        (1..=6usize)
-            .zip(log.iter())
-            .all(|(i, event)| log.event(i) == Ok(event))
-    );
+    for (i, event) in (1..=6usize).zip(log.iter()) {
+        assert_eq!(rt; log.event(i), Ok(event));
+    }
+    Ok(())
 }

@@ -1,5 +1,5 @@
 // Logs that are cut, logs as long as they may be, and every mode at every kind.
-use crate::bytes::writes;
+use crate::bytes::{READ_OF_511, writes};
 use crate::outcome::{Opened, opened};
 use runlog::sample::two_plus_two_writes;
 use std::alloc::{AllocError, Global};
@@ -28,11 +28,7 @@ type Row = (usize, &'static [u8], Opened);
 // 512 events, of which the last is a write, a read of the one before it, and an update of itself.
 const LONGEST: [Row; 3] = [
     (512, b"\x04\x00\x02\x00\x00\x02", Ok(512)),
-    (
-        511,
-        b"\x08\x00\x01\x00\x01\x01\x00\x01\xff\x01\x04\x00\x02\x00\x00\x02",
-        Ok(512),
-    ),
+    (511, READ_OF_511, Ok(512)),
     (
         511,
         b"\x08\x00\x01\x00\x01\x03\x00\x01\x00\x02\x04\x00\x02\x00\x00\x02",
@@ -84,8 +80,8 @@ fn one_event_too_many(rt: HostRuntime) -> Result<(), Fail> {
 
 // A write at location 1, and then an event of this kind and mode, which reads from it if it is a load.
 fn second(kind: u8, mode: u8) -> Opened {
-    let location = u8::from(kind != 4);
-    let writer = u8::from(kind == 1 || kind == 3);
+    let location = if kind == 4 { 0 } else { 1 };
+    let writer = if kind == 1 || kind == 3 { 1 } else { 0 };
     let mut log = *b"\
         \x08\x00\x01\x00\x01\x02\x00\x01\x00\x00\
         \x08\x00\x01\x00\x02\x00\x00\x00\x00\x00\

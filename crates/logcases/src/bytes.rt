@@ -17,3 +17,7 @@ pub(crate) fn writes(heap: Global, n: usize, tail: &[u8]) -> Result<Vec<u8>, All
     bytes.extend_from_slice(tail)?;
     Ok(bytes)
 }
+
+// Event 512, a read of event 511, and the end.
+pub(crate) const READ_OF_511: &[u8] =
+    b"\x08\x00\x01\x00\x01\x01\x00\x01\xff\x01\x04\x00\x02\x00\x00\x02";

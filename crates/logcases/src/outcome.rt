@@ -4,7 +4,7 @@ use executions::execution::Execution;
 use runlog::log::Log;
 use runlog::opening::open_log;
 
-// The number of events, or the number and the place of the refusal.
+// The number of events, or the number and the place of the refusal. Not the cases of `LogFault`: documented are the numbers.
 pub(crate) type Opened = Result<usize, (u8, usize)>;
 
 pub(crate) fn opened(bytes: &[u8]) -> Opened {

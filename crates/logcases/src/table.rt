@@ -1,6 +1,7 @@
 // Logs byte by byte.
 use crate::bytes::from_hex;
-use crate::outcome::opened;
+use executions::execution::Execution;
+use runlog::log::Log;
 use std::alloc::{AllocError, Global};
 use std::test::Fail;
 
@@ -60,11 +61,10 @@ a writer, then field | 0800 0100 01020001 0200 0800 0100 00020001 0000 0400 0200
 a writer, then more  | 0800 0100 01010001 0000 0400 0200 0100 00                          | refused 10 16
 ";
 
-// Words as a row has them. A type with a `Display` would be no plainer for one use.
 fn answer(heap: Global, bytes: &[u8]) -> Result<String, AllocError> {
-    match opened(bytes) {
-        Ok(count) => format!(in heap; "opens {count}"),
-        Err((number, place)) => format!(in heap; "refused {number} {place}"),
+    match Log::try_from(bytes) {
+        Ok(log) => format!(in heap; "opens {}", log.count()),
+        Err(fault) => fault.to_string(heap),
     }
 }
 

@@ -1,5 +1,5 @@
 // The text of logs, character by character.
-use crate::bytes::{from_hex, writes};
+use crate::bytes::{READ_OF_511, from_hex, writes};
 use runtext::run::LogText;
 use std::alloc::Global;
 use std::process::Abort;
@@ -49,8 +49,7 @@ fn every_kind_and_mode(rt: HostRuntime) -> Result<(), Fail> {
 
 #[test]
 fn the_longest_run(rt: HostRuntime) -> Result<(), Fail> {
-    let reads_511 = b"\x08\x00\x01\x00\x01\x01\x00\x01\xff\x01\x04\x00\x02\x00\x00\x02";
-    let log = writes(rt.alloc(), 511, reads_511)?;
+    let log = writes(rt.alloc(), 511, READ_OF_511)?;
     let text = LogText::new(log.as_slice()).to_string(rt.alloc())?;
     assert_eq!(rt; text.as_str().lines().count(), 513);
     assert!(rt;

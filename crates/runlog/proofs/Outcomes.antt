@@ -5,7 +5,7 @@ use Rattle.std.proofs.lemmas.Bool.Decides.{nat_tests, not_from_Decides}
 use Rattle.std.specs.Result.{result_map_both, result_unwrap_or}
 use Rattle.events.specs.Limits.{max_events}
 use Rattle.events.specs.Raw.{checked}
-use Rattle.events.specs.Run.{at, Linked}
+use Rattle.events.specs.Run.{at, Within, Linked}
 use Rattle.events.specs.declared.event.Event.{Event}
 use Rattle.events.proofs.Results.{ok_value}
 use Rattle.runlog.specs.Layout.{word, is_event, is_end, start, after_end, raw_at}
@@ -14,7 +14,7 @@ use Rattle.runlog.specs.FirstFault.{Sound, Begins, Ends, Closed, FirstFault}
 use Rattle.runlog.specs.FirstFault.FirstFault.{shape, trailing, too_many, field, writer}
 use Rattle.runlog.specs.declared.fault.LogFault.{LogFault}
 use Rattle.runlog.proofs.Steps.{length-events_of, Decides-legal, Decides-linked, scanned_on, scanned_step, linked_on, linked_step}
-use Rattle.runlog.proofs.Recorded.{Records, records_of}
+use Rattle.runlog.proofs.Recorded.{Records, records_of, event_in}
 
 -- what the records of a log come to
 abbrev Scanned : List ℕ → Result ℕ LogFault → Type 0
@@ -73,7 +73,7 @@ module _ (s : List ℕ) where
   linked_outcome n zero i c all before = let last : i ≡ length (events_of s n) = omega arith in (records_of s n c, rw last at before)
   linked_outcome n (suc k) i c all before =
       let es = events_of s n in
-      cond_both (linked es (i + 1) (at es (i + 1))) _ _ (Outcome s)
+      cond_both (linked es (i + 1)) _ _ (Outcome s)
       (λ good. linked_outcome n k (i + 1) c (omega arith) (below_more (λ j. Linked es (j + 1)) i before ((Decides-linked es (i + 1)).0 good)))
       (λ bad. writer {k = i} c (omega (arith, length-events_of s n)) before (not_from_Decides _ (Decides-linked es (i + 1)) bad))
 
@@ -83,6 +83,10 @@ module _ (s : List ℕ) where
       let n = result_unwrap_or (scanned max_events s 0) 0 in
       let good : scanned max_events s 0 ≡ Ok n = ok_value (scanned max_events s 0) 0 ok in
       rw (← (rw good at is)) (records_of s n (rw good at (scanned_outcome max_events 0 refl begins_none)))
+
+  -- and where their events are
+  pub event_of : (es : List Event) (i : ℕ) → is_ok (scanned max_events s 0) ≡ true → events_in s ≡ es → Within es i → (is_event s (start (i - 1)) ≡ true) × (checked (raw_at s (start (i - 1))) ≡ Ok (at es i))
+  event_of es i ok is within = event_in s es i (records_in es ok is) within
 
   -- both passes come to an outcome
   with_writers_outcome : (r : Result ℕ LogFault) → Scanned s r → Outcome s (with_writers (result_map_both (events_of s) (λ f. f) r))

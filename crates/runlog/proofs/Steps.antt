@@ -31,7 +31,7 @@ scanned_step s (suc k) n = grind (arith, nat_tests)
 
 -- where the second pass goes from n events, with k more to come
 abbrev pub linked_on : List Event → ℕ → ℕ → Result (List Event) LogFault
-linked_on es k n = if k == 0 then Ok es else if linked es (n + 1) (at es (n + 1)) then linked_up (k - 1) es (n + 1) else Err (BadEvent (start n))
+linked_on es k n = if k == 0 then Ok es else if linked es (n + 1) then linked_up (k - 1) es (n + 1) else Err (BadEvent (start n))
 
 pub linked_step : (es : List Event) (k n : ℕ) → linked_up k es n ≡ linked_on es k n
 unfolding linked_up
@@ -61,5 +61,5 @@ pub sound_checked : (s : List ℕ) (k : ℕ) → Sound s k → checked (raw_at s
 sound_checked s k here = ok_value (checked (raw_at s (start k))) no_event ((Decides-legal s (start k)).1 here.legal)
 
 -- the test of an event's writer says whether the event is linked
-pub Decides-linked : (es : List Event) (i : ℕ) → Decides (linked es i (at es i)) (Linked es i)
+pub Decides-linked : (es : List Event) (i : ℕ) → Decides (linked es i) (Linked es i)
 Decides-linked es i = grind (arith, nat_tests)

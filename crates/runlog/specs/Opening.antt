@@ -1,10 +1,11 @@
 -- What opening a log means.
 use Rattle.std.specs.Borrow.{Bor}
-use Rattle.std.specs.Prelude.{◌≡◌, ◌↔◌, ℕ, List, Ok, Err, Result, IsOk}
+use Rattle.std.specs.Prelude.{◌≡◌, ◌↔◌, ℕ, List, Ok, Err, Result, IsOk, IfOk}
+use Rattle.std.specs.Result.{result_map_both}
 use Rattle.events.specs.Run.{FullRun}
 use Rattle.events.specs.declared.event.Event.{Event}
 use Rattle.runlog.specs.Spelling.{spelling}
-use Rattle.runlog.specs.Reading.{shown}
+use Rattle.runlog.specs.Reading.{reading, shown, answer}
 use Rattle.runlog.specs.FirstFault.{FirstFault}
 use Rattle.runlog.specs.declared.fault.LogFault.{LogFault}
 use Rattle.runlog.specs.declared.log.Log.{Log}
@@ -12,6 +13,10 @@ use Rattle.runlog.specs.declared.log.Log.{Log}
 -- the run that a log shows
 abbrev pub run_of : Log → List Event
 run_of l = shown l.bytes.now
+
+-- a log over the bytes themselves where they read as a run, and else the first fault
+abbrev pub LogOf : Bor (List ℕ) → Result Log LogFault → Type 0
+LogOf bytes r = (result_map_both (λ _. tt) (λ f. f) r ≡ answer (reading bytes.now)) × IfOk r (λ l. l.bytes ≡ bytes)
 
 -- the caller's place holds a log over the bytes themselves; refused, it is as it was
 abbrev pub Holds : Bor (List ℕ) → Log → Log → Result (Unit {0}) LogFault → Type 0

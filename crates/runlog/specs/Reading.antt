@@ -46,13 +46,13 @@ abbrev linked_to : List Event → ℕ → Event → Option ℕ → Bool
 linked_to es i e None = not (is_load e.kind)
 linked_to es i e (Some w) = is_load e.kind && (nat_le w (length es) && fitting (at es w) w e i)
 
-abbrev pub linked : List Event → ℕ → Event → Bool
-linked es i e = linked_to es i e (writer_of e)
+abbrev pub linked : List Event → ℕ → Bool
+linked es i = let e = at es i in linked_to es i e (writer_of e)
 
 -- the writers in turn, after those of i events and with k more to come: the run, or the first fault
 unfoldable pub linked_up : ℕ → List Event → ℕ → Result (List Event) LogFault
 linked_up zero es i = Ok es
-linked_up (suc k) es i = if linked es (i + 1) (at es (i + 1)) then linked_up k es (i + 1) else Err (BadEvent (start i))
+linked_up (suc k) es i = if linked es (i + 1) then linked_up k es (i + 1) else Err (BadEvent (start i))
 
 abbrev pub with_writers : Result (List Event) LogFault → Result (List Event) LogFault
 with_writers (Ok es) = linked_up (length es) es 0

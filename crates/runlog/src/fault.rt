@@ -1,8 +1,13 @@
 //! The refusals of the log layer. Each place is a byte of the log, counted from 0.
 ghost use Rattle.events.specs.declared.refusal.Layer.TheVariants.{Log as LogLayer};
+ghost use Rattle.std.specs.Prelude.{Some};
+ghost use Rattle.events.specs.Text.{refused_text};
 ghost use Rattle.runlog.specs.Faults.{fault_number, fault_place};
 
 use events::refusal::{Layer, Refusal};
+use events::text::Refused;
+use std::error::Error;
+use std::fmt;
 
 #[derive(Clone, Copy, Debug, PartialEq, Eq, Hash)]
 pub enum LogFault {
@@ -39,3 +44,13 @@ impl Refusal for LogFault {
         Layer::Log
     }
 }
+
+impl fmt::Display for LogFault {
+    ghost output = { λ f. Some (refused_text (fault_number f) (fault_place f)) };
+
+    fn fmt<W: fmt::Write>(&self, f: &mut fmt::Formatter<W>) -> fmt::Result {
+        write!(f, "{}", Refused(*self))
+    }
+}
+
+impl Error for LogFault {}

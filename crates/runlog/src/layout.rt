@@ -12,7 +12,8 @@ pub(crate) const EVENT_SIZE: usize = 10;
 // An end record: length 4 and kind 2, so 6 bytes in all.
 pub(crate) const END_SIZE: usize = 6;
 
-// Two layouts and two functions: one over the header would still have to read two different bodies.
+// Two layouts and two functions: one over the header would be no plainer, since it would still have two bodies to read. Both
+// take a place in the bytes, and not the rest of them, so that `get(p..)` stands here and not at each of four calls.
 
 // The numbers in the event record that begins at p, if one does, with all its bytes.
 pub(crate) fn event_record(s: &[u8], p: usize) -> Option<RawEvent>

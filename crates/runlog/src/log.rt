@@ -3,12 +3,14 @@ ghost use Rattle.std.specs.Prelude.{IsOk};
 ghost use Rattle.events.specs.Run.{FullRun};
 ghost use Rattle.runlog.specs.Reading.{reading, shown};
 
-use crate::records::Records;
+use crate::fault::LogFault;
+use crate::records::{Records, check};
 use events::event::Event;
 use executions::execution::Execution;
 use executions::fault::CheckerFault;
 
 /// `opens` says that the bytes read as a run, and `full` that this run is full.
+// The bytes, and not the `Records` made of them, which a contract sees as events only.
 #[derive(Drop)]
 pub struct Log<'a> {
     pub(crate) bytes: &'a [u8],
@@ -37,6 +39,20 @@ impl<'a> Log<'a> {
     }
 }
 
+/// The bytes as a log, or what is wrong with them first.
+impl<'a> TryFrom<&'a [u8]> for Log<'a> {
+    ghost use Rattle.runlog.specs.Opening.{LogOf};
+
+    type Error = LogFault;
+
+    ghost try_from_gives = { LogOf };
+
+    fn try_from(bytes: &'a [u8]) -> Result<Self, LogFault> {
+        check(bytes)?;
+        Ok(Log { bytes })
+    }
+}
+
 impl<'a> Execution for Log<'a> {
     ghost use Rattle.runlog.specs.Opening.{run_of};
 
@@ -47,7 +63,7 @@ impl<'a> Execution for Log<'a> {
     }
 
     fn event(&self, i: usize) -> Result<Event, CheckerFault> {
-        if i == 0 || i > self.count() {
+        if !(1..=self.count()).contains(&i) {
             return Err(CheckerFault::NoEvent(i));
         }
         Ok(self.records().event(i))

@@ -2,7 +2,7 @@
 ghost use Rattle.std.specs.Prelude.{◌≡◌, ◌≤◌, length};
 ghost use Rattle.events.specs.Limits.{max_events};
 ghost use Rattle.events.specs.Run.{at, Within};
-ghost use Rattle.runlog.specs.Reading.{ended, scanned, recorded, linked, linked_up, answer};
+ghost use Rattle.runlog.specs.Reading.{ended, scanned, recorded, linked, linked_up, reading, answer};
 
 use crate::fault::LogFault;
 use crate::layout::{END_SIZE, EVENT_SIZE, end_record, event_record};
@@ -10,7 +10,8 @@ use events::event::Event;
 use events::limits::MAX_EVENTS;
 use std::marker::Model;
 
-// n, if the record after n event records is an end record that counts them, and ends the log.
+// n, if the record after n event records is an end record that counts them, and ends the log. A number and no rest of the
+// bytes, since the fault's place is made of it.
 fn end_of(s: &[u8], n: usize) -> Result<usize, LogFault>
     requires { n ≤ max_events }
     ensures { result ≡ ended s.now n }
@@ -53,6 +54,7 @@ pub(crate) struct Records<'a> {
 }
 
 impl<'a> Model for Records<'a> {
+    // Lines in an impl stand in place of those at the top of the file.
     ghost use Rattle.std.specs.Prelude.{List, IsOk};
     ghost use Rattle.events.specs.Limits.{max_events};
     ghost use Rattle.events.specs.declared.event.Event.{Event};
@@ -72,6 +74,7 @@ impl<'a> TryFrom<&'a [u8]> for Records<'a> {
     ghost try_from_gives = { λ bytes r. r ≡ recorded bytes.now };
 
     fn try_from(bytes: &'a [u8]) -> Result<Self, LogFault> {
+        // How many there are is what the definition gives; `count` knows it from the length.
         scan(bytes)?;
         Ok(Records { bytes })
     }
@@ -98,17 +101,17 @@ impl<'a> Records<'a> {
     // Whether event i has the writer that it must have.
     fn is_linked(&self, i: usize) -> bool
         requires { Within self.now i }
-        ensures { result ≡ linked self.now i (at self.now i) }
+        ensures { result ≡ linked self.now i }
     {
-        let load = self.event(i);
-        let Some(w) = load.reads_from() else {
-            return !load.kind.is_load();
+        let event = self.event(i);
+        let Some(w) = event.reads_from() else {
+            return !event.kind.is_load();
         };
         let w = usize::from(w);
         if w > self.count() {
             return false;
         }
-        load.kind.is_load() && self.event(w).fits(w, &load, i)
+        event.kind.is_load() && self.event(w).fits(w, &event, i)
     }
 
     // Second pass: nothing, or the first event with a writer that it may not have.
@@ -122,4 +125,11 @@ impl<'a> Records<'a> {
         }
         Ok(())
     }
+}
+
+// Both passes: nothing where the bytes spell a full run, or the first fault.
+pub(crate) fn check(bytes: &[u8]) -> Result<(), LogFault>
+    ensures { result ≡ answer (reading bytes.now) }
+{
+    Records::try_from(bytes)?.check_writers()
 }

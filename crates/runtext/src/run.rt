@@ -2,10 +2,8 @@
 ghost use Rattle.std.specs.Prelude.{◌≡◌, Some};
 ghost use Rattle.runtext.specs.Text.{run_text, Tells};
 
-use events::text::Refused;
 use executions::execution::Execution;
 use runlog::log::Log;
-use runlog::opening::open_log;
 use std::fmt;
 use std::marker::Model;
 
@@ -73,10 +71,9 @@ impl<'a> fmt::Display for LogText<'a> {
     ghost output = { λ t. Some t };
 
     fn fmt<W: fmt::Write>(&self, f: &mut fmt::Formatter<W>) -> fmt::Result {
-        let mut log = Log::empty();
-        match open_log(self.bytes, &mut log) {
-            Ok(()) => write!(f, "{}", RunText::new(&log)),
-            Err(fault) => writeln!(f, "log {}", Refused(fault)),
+        match Log::try_from(self.bytes) {
+            Ok(log) => write!(f, "{}", RunText::new(&log)),
+            Err(fault) => writeln!(f, "log {fault}"),
         }
     }
 }

@@ -6,6 +6,6 @@ use Rattle.input.proofs.tests.TrickleRead.read.Goals as goal
 pub returns-clause-bytes : goal.returns-clause-bytes
 returns-clause-bytes c =
     let trickle = c.args.self.now in
-    let left : trickle.last - trickle.next ≡ suc (trickle.last - (trickle.next + 1)) = omega arith in
+    let left : trickle.end - trickle.next ≡ suc (trickle.end - (trickle.next + 1)) = omega arith in
     let room : 0 < length c.args.buf.now = search rules in
     (rw (left, take_more_set _ 0 _ room), search rules)

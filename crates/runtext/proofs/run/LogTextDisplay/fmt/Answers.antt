@@ -1,4 +1,4 @@
-use Rattle.std.proofs.Common.{is_ok, sym, ap, ◌∙◌}
+use Rattle.std.proofs.Common.{refl, sym, ap, ◌∙◌}
 use Rattle.std.proofs.Output.{has_written_of_eq}
 use Rattle.runlog.specs.Reading.{shown}
 use Rattle.runlog.proofs.Laws.{opened, reads_shown}
@@ -8,6 +8,7 @@ use Rattle.runtext.proofs.run.LogTextDisplay.fmt.Goals as goal
 pub returns-in-Ok-clause-writes : goal.returns-in-Ok-clause-writes
 returns-in-Ok-clause-writes g c = λ plain ok.
     let s = c.self.inside.bytes.now in
-    let reads = reads_shown s (opened s c.open_log.result c.open_log.ensures.answers (ap is_ok c.in-Ok.is)) in
-    let run = ap (λ r. run_text (shown r.now)) c.in-Ok.ensures.holds in
+    let told = c.in-Ok.ensures in
+    let reads = reads_shown s (opened s _ told.0 refl) in
+    let run = ap (λ b. run_text (shown b.now)) told.1 in
     has_written_of_eq _ _ _ _ _ (c.new.ensures ∙ (run ∙ (sym (ap log_text reads) ∙ c.self.view_is))) (c.write.ensures.writes plain ok)

@@ -1,6 +1,6 @@
 use Rattle.std.proofs.Common.{rules}
 use Rattle.runlog.specs.Reading.{reading}
-use Rattle.runlog.proofs.opening.check_log.Goals as goal
+use Rattle.runlog.proofs.records.check.Goals as goal
 
 pub returns-in_err-try_from : goal.returns-in_err-try_from
 unfolding reading
