@@ -61,6 +61,7 @@ a writer, then field | 0800 0100 01020001 0200 0800 0100 00020001 0000 0400 0200
 a writer, then more  | 0800 0100 01010001 0000 0400 0200 0100 00                          | refused 10 16
 ";
 
+// Words as a row has them. A type with a `Display` would be no plainer for one use.
 fn answer(heap: Global, bytes: &[u8]) -> Result<String, AllocError> {
     match Log::try_from(bytes) {
         Ok(log) => format!(in heap; "opens {}", log.count()),
