@@ -102,9 +102,9 @@ const ALLOWED: [[bool; 5]; 6] = [
 
 #[test]
 fn every_mode_at_every_kind(rt: HostRuntime) {
-    for (kind, modes) in (0..6u8).zip(ALLOWED) {
+    for (kind, modes) in (0..6u8).zip(&ALLOWED) {
         for (mode, allowed) in (0..5u8).zip(modes) {
-            let expected = if allowed { Ok(2) } else { Err((11, 10)) };
+            let expected = if *allowed { Ok(2) } else { Err((11, 10)) };
             assert_eq!(rt; second(kind, mode), expected);
         }
     }
