@@ -1,5 +1,8 @@
 -- A log reads as a run exactly when it is the spelling of that run, and the run is full.
-use Rattle.std.proofs.Common.{◌≡◌, ℕ, ◌+◌, ◌-◌, ◌<◌, true, List, [], length, is_ok, Ok, Err, Result, sym, refl, arith}
+use Rattle.std.proofs.Common.{◌≡◌, ℕ, ◌+◌, ◌-◌, ◌<◌, true, List, [], length, is_ok, Ok, Err, Result, sym, refl, ap, arith}
+use Rattle.std.specs.Borrow.{Bor}
+use Rattle.std.specs.Prelude.{IfOk}
+use Rattle.std.specs.Result.{result_map_both}
 use Rattle.events.specs.Limits.{max_events}
 use Rattle.events.specs.Run.{at, FullRun}
 use Rattle.events.specs.declared.event.Event.{Event}
@@ -8,7 +11,8 @@ use Rattle.events.proofs.Results.{ok_value}
 use Rattle.runlog.specs.Layout.{byte, start, raw_at}
 use Rattle.runlog.specs.Spelling.{spelling}
 use Rattle.runlog.specs.Reading.{scanned, events_in, reading, shown, answer}
-use Rattle.runlog.specs.Opening.{Opens, Refuses}
+use Rattle.runlog.specs.Opening.{run_of, Opens, Refuses, LogOf}
+use Rattle.runlog.specs.declared.log.Log.{Log}
 use Rattle.runlog.specs.declared.fault.LogFault.{LogFault}
 use Rattle.runlog.proofs.Outcomes.{Outcome, outcome, fault_is, reading_is, closed_scanned}
 use Rattle.runlog.proofs.Recorded.{event_in}
@@ -62,3 +66,22 @@ module _ (s : List ℕ) (r : Result (Unit {0}) LogFault) (told : r ≡ answer (r
     λ (ok, is). let reads : reading s ≡ Ok x = grind arith in (spelled_from_reading s x bytes reads, full_from_reading s x reads),
     λ (spelled, full). let reads = reading_from_spelled s x full spelled in grind arith,
   )
+
+-- and so for a log as a value
+pub log_of : (bytes : Bor (List ℕ)) (r : Result Log LogFault) → ((p : ℕ) → byte bytes.now p < 256) → result_map_both (λ _. tt) (λ f. f) r ≡ answer (reading bytes.now) → IfOk r (λ l. l.bytes ≡ bytes) → LogOf bytes r
+log_of bytes (Ok l) small told same =
+    let s = bytes.now in
+    record {
+      answers = told;
+      holds = same;
+      opens = λ x. let o = opens s (Ok tt) told small (run_of l) (λ _. ap (λ b. shown b.now) same) x in (λ is. o.0 (refl, is), λ h. (o.1 h).1);
+      refuses = λ f. (λ e. grind arith, λ fault. let no = (refuses s (Ok tt) told f).1 fault in grind arith);
+    }
+log_of bytes (Err g) small told same =
+    let s = bytes.now in
+    record {
+      answers = told;
+      holds = same;
+      opens = λ x. (λ is. absurd is, λ h. let no = ((opens s (Err g) told small [] (λ ok. grind arith) x).1 h).0 in grind arith);
+      refuses = λ f. (λ e. let is : g ≡ f = cc in (refuses s (Err g) told f).0 (ap Err is), λ fault. let is = (refuses s (Err g) told f).1 fault in grind arith);
+    }

@@ -1,6 +1,6 @@
 -- What opening a log means.
 use Rattle.std.specs.Borrow.{Bor}
-use Rattle.std.specs.Prelude.{◌≡◌, ◌↔◌, ℕ, List, Ok, Err, Result, IsOk, IfOk}
+use Rattle.std.specs.Prelude.{◌≡◌, ◌↔◌, ℕ, List, Ok, Err, Result, IsOk, IfOk, IsOkAnd}
 use Rattle.std.specs.Result.{result_map_both}
 use Rattle.events.specs.Run.{FullRun}
 use Rattle.events.specs.declared.event.Event.{Event}
@@ -14,10 +14,6 @@ use Rattle.runlog.specs.declared.log.Log.{Log}
 abbrev pub run_of : Log → List Event
 run_of l = shown l.bytes.now
 
--- a log over the bytes themselves where they read as a run, and else the first fault
-abbrev pub LogOf : Bor (List ℕ) → Result Log LogFault → Type 0
-LogOf bytes r = (result_map_both (λ _. tt) (λ f. f) r ≡ answer (reading bytes.now)) × IfOk r (λ l. l.bytes ≡ bytes)
-
 -- the caller's place holds a log over the bytes themselves; refused, it is as it was
 abbrev pub Holds : Bor (List ℕ) → Log → Log → Result (Unit {0}) LogFault → Type 0
 Holds bytes old new (Ok u) = new.bytes ≡ bytes
@@ -30,3 +26,11 @@ Opens s shows r = (x : List Event) → (IsOk r × (shows ≡ x)) ↔ ((s ≡ spe
 -- they are refused for exactly the first fault
 abbrev pub Refuses : List ℕ → Result (Unit {0}) LogFault → Type 0
 Refuses s r = (f : LogFault) → (r ≡ Err f) ↔ FirstFault s f
+
+-- as a value: a log over the bytes themselves, which shows the run x exactly when they are the spelling of x and x is full;
+-- or else exactly the first fault
+pub record LogOf (bytes : Bor (List ℕ)) (r : Result Log LogFault) : Type 0 where
+  pub answers : result_map_both (λ _. tt) (λ f. f) r ≡ answer (reading bytes.now)
+  pub holds : IfOk r (λ l. l.bytes ≡ bytes)
+  pub opens : (x : List Event) → IsOkAnd r (λ l. run_of l ≡ x) ↔ ((bytes.now ≡ spelling x) × FullRun x)
+  pub refuses : (f : LogFault) → (r ≡ Err f) ↔ FirstFault bytes.now f

@@ -14,7 +14,7 @@ returns-in_err-into-clause-refuses c = search (rules, refuses)
 pub returns-clause-opens : goal.returns-clause-opens
 returns-clause-opens c =
     let told = c.in_ok-into.ensures in
-    opens c.args.bytes.now _ told.0 (λ p. (c.type_inv.bytes p).fits) _ (λ _. ap (λ b. shown b.now) told.1)
+    opens c.args.bytes.now _ told.answers (λ p. (c.type_inv.bytes p).fits) _ (λ _. ap (λ b. shown b.now) told.holds)
 
 pub returns-clause-refuses : goal.returns-clause-refuses
 returns-clause-refuses c = search (rules, refuses)

@@ -9,6 +9,6 @@ pub returns-in-Ok-clause-writes : goal.returns-in-Ok-clause-writes
 returns-in-Ok-clause-writes g c = λ plain ok.
     let s = c.self.inside.bytes.now in
     let told = c.in-Ok.ensures in
-    let reads = reads_shown s (opened s _ told.0 refl) in
-    let run = ap (λ b. run_text (shown b.now)) told.1 in
+    let reads = reads_shown s (opened s _ told.answers refl) in
+    let run = ap (λ b. run_text (shown b.now)) told.holds in
     has_written_of_eq _ _ _ _ _ (c.new.ensures ∙ (run ∙ (sym (ap log_text reads) ∙ c.self.view_is))) (c.write.ensures.writes plain ok)
