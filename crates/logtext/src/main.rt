@@ -6,8 +6,7 @@ use runtext::run::LogText;
 use std::io;
 
 // The log of the longest run has 5,126 bytes, so what follows the first 8,192 is not read. The buffer is fixed memory, a
-// rule of the project, so how far it is filled stands beside it. The text is made before it is printed: all of it or
-// nothing, at once.
+// rule of the project, so how far it is filled stands beside it. The text is made before any of it is printed.
 fn main(rt: HostRuntime) -> io::Result<()> {
     let mut buffer = [0u8; 8192];
     let n = fill(&mut rt.stdin(), &mut buffer)?;
