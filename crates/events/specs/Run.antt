@@ -1,7 +1,7 @@
 -- A run: a list of events, numbered from 1.
-use Rattle.std.specs.Prelude.{◌≡◌, ℕ, ◌≤◌, true, false, ◌≢◌, List, ◌∷◌, length, slice_index_or}
+use Rattle.std.specs.Prelude.{◌≡◌, ℕ, ◌≤◌, Bool, true, false, ◌&&◌, ◌≢◌, List, ◌∷◌, length, slice_index_or}
 use Rattle.events.specs.Limits.{max_events}
-use Rattle.events.specs.Events.{is_load, is_store}
+use Rattle.events.specs.Events.{is_load, is_store, fitting}
 use Rattle.events.specs.Raw.{Legal}
 use Rattle.events.specs.declared.event.Kind.TheVariants.{Fence}
 use Rattle.events.specs.declared.event.Mode.TheVariants.{Relaxed}
@@ -33,6 +33,14 @@ pub record Fits (es : List Event) (w r : ℕ) : Type 0 where
   pub other : w ≢ r
   pub store : Store es w
   pub same : SameLocation es w r
+
+-- i is a load, and w fits it
+abbrev pub MayRead : List Event → ℕ → ℕ → Type 0
+MayRead es w i = Load es i × Fits es w i
+
+-- the same as a test
+abbrev pub may_read : List Event → ℕ → ℕ → Bool
+may_read es w i = is_load (at es i).kind && fitting (at es w) w (at es i) i
 
 -- a load has a writer that fits, and any other event has none
 pub record Linked (es : List Event) (i : ℕ) : Type 0 where

@@ -2,7 +2,7 @@
 ghost use Rattle.std.specs.Prelude.{◌≡◌, ℕ};
 ghost use Rattle.events.specs.declared.refusal.Layer.{Layer as LayerOf};
 
-/// The layer whose call was refused. Records have no calls yet.
+/// The layer whose call was refused.
 #[derive(Clone, Copy, Debug, PartialEq, Eq, Hash)]
 pub enum Layer {
     Record,

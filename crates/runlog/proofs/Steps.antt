@@ -9,6 +9,7 @@ use Rattle.events.specs.Raw.{checked}
 use Rattle.events.specs.Run.{at, no_event, Linked}
 use Rattle.events.specs.declared.event.Event.{Event}
 use Rattle.events.proofs.Fields.{checked_legal, legal_checked}
+use Rattle.events.proofs.Numbers.{store_within}
 use Rattle.events.proofs.Results.{ok_value}
 use Rattle.runlog.specs.Layout.{is_event, start, raw_at}
 use Rattle.runlog.specs.Reading.{ended, scanned, event_at, events_of, linked, linked_up}
@@ -62,4 +63,4 @@ sound_checked s k here = ok_value (checked (raw_at s (start k))) no_event ((Deci
 
 -- the test of an event's writer says whether the event is linked
 pub Decides-linked : (es : List Event) (i : ℕ) → Decides (linked es i) (Linked es i)
-Decides-linked es i = grind (arith, nat_tests)
+Decides-linked es i = grind (arith, nat_tests, store_within es (at es i).writer)

@@ -3,9 +3,9 @@ use Rattle.std.specs.Prelude.{ℕ, zero, suc, ◌+◌, Bool, not, ◌&&◌, List
 use Rattle.std.specs.List.{range_with_len}
 use Rattle.std.specs.Result.{result_map_both, result_unwrap_or}
 use Rattle.events.specs.Limits.{max_events}
-use Rattle.events.specs.Events.{is_load, writer_of, fitting}
+use Rattle.events.specs.Events.{is_load, writer_of}
 use Rattle.events.specs.Raw.{checked}
-use Rattle.events.specs.Run.{at, no_event}
+use Rattle.events.specs.Run.{at, no_event, may_read}
 use Rattle.events.specs.declared.event.Event.{Event}
 use Rattle.runlog.specs.Layout.{word, is_event, is_end, start, after_end, raw_at}
 use Rattle.runlog.specs.declared.fault.LogFault.{LogFault}
@@ -41,13 +41,13 @@ recorded s = result_map_both (events_of s) (λ f. f) (scanned max_events s 0)
 abbrev pub events_in : List ℕ → List Event
 events_in s = result_unwrap_or (recorded s) []
 
--- e, the event with number i, has a writer that fits if it is a load, and none if it is not
-abbrev linked_to : List Event → ℕ → Event → Option ℕ → Bool
-linked_to es i e None = not (is_load e.kind)
-linked_to es i e (Some w) = is_load e.kind && (nat_le w (length es) && fitting (at es w) w e i)
+abbrev linked_to : List Event → ℕ → Option ℕ → Bool
+linked_to es i None = not (is_load (at es i).kind)
+linked_to es i (Some w) = may_read es w i
 
+-- event i has a writer that fits if it is a load, and none if it is not
 abbrev pub linked : List Event → ℕ → Bool
-linked es i = let e = at es i in linked_to es i e (writer_of e)
+linked es i = linked_to es i (writer_of (at es i))
 
 -- the writers in turn, after those of i events and with k more to come: the run, or the first fault
 unfoldable pub linked_up : ℕ → List Event → ℕ → Result (List Event) LogFault
