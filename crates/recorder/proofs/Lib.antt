@@ -1,0 +1,14 @@
+pub mod Lowest
+pub mod Runs
+pub mod Refusals
+pub mod Undamaged
+pub mod Complete
+pub mod Obeyed
+pub mod Parts
+pub mod Carried
+pub mod OpenRuns
+pub mod Keeping
+pub mod Changes
+pub mod Histories
+pub mod Replies
+pub mod Standing

@@ -1,0 +1,12 @@
+pub mod Faults
+pub mod Lowest
+pub mod Places
+pub mod Edits
+pub mod Record
+pub mod Refusals
+pub mod Sealing
+pub mod Calls
+pub mod Reference
+pub mod Replay
+pub mod Carrying
+pub mod History

@@ -1,0 +1,63 @@
+-- A record over its memory, as its calls are proved to treat it, and that it keeps to the reference model.
+use Rattle.std.specs.Prelude.{◌≡◌, ℕ, ◌+◌, ◌-◌, Bool, false, not, List, length, take, is_ok, if◌then◌else◌}
+use Rattle.events.specs.declared.event.Event.{Event}
+use Rattle.events.specs.declared.raw.RawEvent.{RawEvent}
+use Rattle.recorder.specs.Places.{events_of}
+use Rattle.recorder.specs.Edits.{unlinked, note_edit, link_edit, retract_edit, seal_edit}
+use Rattle.recorder.specs.Record.{on_record, with_number, without_value, obeyed_or, with_place, with_link}
+use Rattle.recorder.specs.Calls.{Step, after, answers_to, told, told_number}
+use Rattle.recorder.specs.Reference.{fresh, model_step, sealed_answer, is_reopen}
+use Rattle.recorder.specs.declared.calls.Call.{Call}
+use Rattle.recorder.specs.declared.calls.Call.TheVariants as call
+use Rattle.recorder.specs.declared.calls.Answer.{Answer}
+use Rattle.recorder.specs.declared.calls.Answer.TheVariants.{Barred}
+
+-- a record: the number of its events, and whether it is sealed; and all of the memory that it is handed parts of
+pub record Kept : Type 0 where
+  pub count : ℕ
+  pub memory : List RawEvent
+  pub is_sealed : Bool
+
+-- a record as it is opened
+abbrev pub opened : List RawEvent → Kept
+opened memory = record { count = 0; memory = memory; is_sealed = false }
+
+-- the events of the record
+abbrev pub run_in : Kept → List Event
+run_in s = events_of (take s.count s.memory)
+
+-- a call of an open record
+abbrev pub record_open : Call → Kept → Answer × Kept
+record_open (call.Note handed t k m l) s =
+    let x = unlinked t k m l in
+    let r = on_record s.count (take handed s.memory) (note_edit x) in (
+      told_number (with_number (s.count + 1) r),
+      record {
+        count = obeyed_or r (s.count + 1) s.count;
+        memory = obeyed_or r (with_place s.memory (s.count + 1) x) s.memory;
+        is_sealed = false;
+      },
+    )
+record_open (call.Link handed i w) s =
+    let r = on_record s.count (take handed s.memory) (link_edit i w) in
+    (told (without_value r), record { count = s.count; memory = obeyed_or r (with_link s.memory i w) s.memory; is_sealed = false })
+record_open (call.Retract handed) s =
+    let r = on_record s.count (take handed s.memory) retract_edit in
+    (told (without_value r), record { count = obeyed_or r (s.count - 1) s.count; memory = s.memory; is_sealed = false })
+record_open (call.Seal handed) s =
+    let r = on_record s.count (take handed s.memory) seal_edit in
+    (told (without_value r), record { count = s.count; memory = s.memory; is_sealed = is_ok r })
+record_open _ s = (Barred, s)
+
+-- a call of a sealed record
+abbrev pub record_sealed : Call → Kept → Answer × Kept
+record_sealed c s = (sealed_answer (run_in s) c, record { count = s.count; memory = s.memory; is_sealed = not (is_reopen c) })
+
+abbrev pub record_step : Step Kept
+record_step c s = if s.is_sealed then record_sealed c s else record_open c s
+
+-- whatever the calls and the memory: every answer is that of the reference model, and so is what the record holds, sealed or not
+pub record KeepsToReference (calls : List Call) (memory : List RawEvent) : Type 0 where
+  pub answers : (n : ℕ) → answers_to record_step (opened memory) calls n ≡ answers_to (model_step (length memory)) fresh calls n
+  pub is_sealed : (n : ℕ) → (after record_step (opened memory) calls n).is_sealed ≡ (after (model_step (length memory)) fresh calls n).is_sealed
+  pub run : (n : ℕ) → run_in (after record_step (opened memory) calls n) ≡ (after (model_step (length memory)) fresh calls n).run
