@@ -10,5 +10,6 @@ pub mod OpenRuns
 pub mod Keeping
 pub mod Changes
 pub mod Histories
+pub mod Seals
 pub mod Replies
 pub mod Standing

@@ -31,7 +31,9 @@ UntilReopened es calls old new from (Some (count, next)) =
 
 -- a call of an open record; or how many places are handed to one that seals it
 abbrev pub OpenCall : Call → ℕ → List RawEvent → ℕ → List RawEvent → Result Answer ℕ → Type 0
-OpenCall c n memory n' memory' (Ok a) = (a, record { count = n'; memory = memory'; is_sealed = false }) ≡ record_open c (record { count = n; memory = memory; is_sealed = false })
+OpenCall c n memory n' memory' (Ok a) =
+    (a, record { count = n'; memory = memory'; is_sealed = false })
+    ≡ record_open c (record { count = n; memory = memory; is_sealed = false })
 OpenCall c n memory n' memory' (Err places) = (c ≡ call.Seal places) × (n' ≡ n) × (memory' ≡ memory)
 
 -- the call after k others seals the record, if it may, and the calls after it are answered; or it is refused, and the next one is

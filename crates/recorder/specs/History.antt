@@ -7,7 +7,7 @@ use Rattle.recorder.specs.Calls.{call_at, answer_at}
 use Rattle.recorder.specs.declared.calls.Call.{Call}
 use Rattle.executions.specs.declared.fault.CheckerFault.{CheckerFault}
 use Rattle.executions.specs.declared.fault.CheckerFault.TheVariants.{NoEvent}
-use Rattle.recorder.specs.declared.calls.Call.TheVariants.{Note, Link, Retract, Count, Event}
+use Rattle.recorder.specs.declared.calls.Call.TheVariants.{Note, Link, Retract, Seal, Reopen, Count, Event}
 use Rattle.recorder.specs.declared.calls.Answer.{Answer}
 use Rattle.recorder.specs.declared.calls.Answer.TheVariants.{Noted, Done, Counted, Shown, NotShown}
 
@@ -20,11 +20,13 @@ count_step _ _ n = n
 module _ (calls : List Call) (answers : List Answer) where
   -- the call after k others noted the event e, but for its writer, and gave it the number i
   abbrev pub Notes : ℕ → ℕ → EventOf → Type 0
-  Notes k i e = (places : ℕ) × (call_at calls k ≡ Note places e.thread (kind_number e.kind) (mode_number e.mode) e.location) × (answer_at answers k ≡ Noted i)
+  Notes k i e =
+      (handed : ℕ) × (call_at calls k ≡ Note handed e.thread (kind_number e.kind) (mode_number e.mode) e.location)
+      × (answer_at answers k ≡ Noted i)
 
   -- it gave event i the writer w; 0 is none
   abbrev pub Links : ℕ → ℕ → ℕ → Type 0
-  Links k i w = (places : ℕ) × (call_at calls k ≡ Link places i w) × (answer_at answers k ≡ Done)
+  Links k i w = (handed : ℕ) × (call_at calls k ≡ Link handed i w) × (answer_at answers k ≡ Done)
 
   -- after the first k calls
   abbrev pub count_after : ℕ → ℕ
@@ -33,7 +35,7 @@ module _ (calls : List Call) (answers : List Answer) where
 
   -- it took event i back, the last that there was
   abbrev pub TakesBack : ℕ → ℕ → Type 0
-  TakesBack k i = (places : ℕ) × (call_at calls k ≡ Retract places) × (answer_at answers k ≡ Done) × (count_after k ≡ i)
+  TakesBack k i = (handed : ℕ) × (call_at calls k ≡ Retract handed) × (answer_at answers k ≡ Done) × (count_after k ≡ i)
 
   -- of the calls after one and before another, the last that gave event i a writer gave it w; or none did, and w is 0
   pub data LastWriter (since until i : ℕ) : ℕ → Type 0 where
@@ -52,8 +54,25 @@ module _ (calls : List Call) (answers : List Answer) where
   abbrev pub HoldsWhatStands : ℕ → List EventOf → Type 0
   HoldsWhatStands n es = (length es ≡ count_after n) × ((i : ℕ) (e : EventOf) → (Within es i × (at es i ≡ e)) ↔ Stands n i e)
 
-  -- what the call after k others was told of a sealed record is what stands
+  -- the call after k others sealed the record, or opened it again
+  abbrev pub Seals : ℕ → Type 0
+  Seals k = (handed : ℕ) × (call_at calls k ≡ Seal handed) × (answer_at answers k ≡ Done)
+
+  abbrev pub Reopens : ℕ → Type 0
+  Reopens k = (call_at calls k ≡ Reopen) × (answer_at answers k ≡ Done)
+
+  -- one of the first n calls sealed the record, and none opened it again since
+  pub record IsSealed (n : ℕ) : Type 0 where
+    pub sealed : ℕ
+    pub before : sealed < n
+    pub seals : Seals sealed
+    pub stays : (k : ℕ) → sealed < k → k < n → ¬ Reopens k
+
+  -- the call after k others is told how many events there are, of an event, or that there is no such event, exactly if it asks,
+  -- the record is sealed, and that is so
   pub record TellsWhatStands (k : ℕ) : Type 0 where
-    pub count : (n : ℕ) → answer_at answers k ≡ Counted n → (call_at calls k ≡ Count) × (n ≡ count_after k)
-    pub event : (e : EventOf) → answer_at answers k ≡ Shown e → (i : ℕ) × (call_at calls k ≡ Event i) × Stands k i e
-    pub none : (f : CheckerFault) → answer_at answers k ≡ NotShown f → (i : ℕ) × (call_at calls k ≡ Event i) × (f ≡ NoEvent i) × ((e : EventOf) → ¬ Stands k i e)
+    pub count : (n : ℕ) → (answer_at answers k ≡ Counted n) ↔ ((call_at calls k ≡ Count) × IsSealed k × (n ≡ count_after k))
+    pub event : (e : EventOf) → (answer_at answers k ≡ Shown e) ↔ ((i : ℕ) × (call_at calls k ≡ Event i) × IsSealed k × Stands k i e)
+    pub none :
+        (f : CheckerFault) → (answer_at answers k ≡ NotShown f)
+        ↔ ((i : ℕ) × (call_at calls k ≡ Event i) × IsSealed k × ((e : EventOf) → ¬ Stands k i e) × (f ≡ NoEvent i))

@@ -27,7 +27,9 @@ pub record Whole (n : ℕ) (memory : List RawEvent) : Type 0 where
 -- a call is refused for its memory first, and then for what it asks of the events
 pub data Refusal (n : ℕ) (memory : List RawEvent) (Fault : List Event → RecordFault → Type 0) : RecordFault → Type 0 where
   short : length memory < max_events → Refusal n memory Fault ShortMemory
-  damaged : {i : ℕ} → max_events ≤ length memory → IsLowest (IsDamaged (take n memory)) (length (take n memory)) i → Refusal n memory Fault (Damaged i)
+  damaged :
+      {i : ℕ} → max_events ≤ length memory → IsLowest (IsDamaged (take n memory)) (length (take n memory)) i
+      → Refusal n memory Fault (Damaged i)
   asked : {f : RecordFault} → Whole n memory → Fault (events_of (take n memory)) f → Refusal n memory Fault f
 
 pub data NoteFault (x : RawEvent) (es : List Event) : RecordFault → Type 0 where

@@ -128,7 +128,7 @@ pub fn replay(calls: &[Call], memory: &mut [RawEvent], answers: &mut [Answer])
     // And in the words of the calls: that list has just the events that were noted and not taken back, as they were linked;
     ensures stands { let n = min (length calls.now) (length answers.old) in (k : ℕ) → k ≤ n →
         HoldsWhatStands calls.now answers.new k (run_in (after record_step (opened memory.old) calls.now k)) }
-    // so the sealed record told of these events, and of no other, whenever it was asked.
+    // and asked of its events it tells what stands, while it is sealed, and nothing else.
     ensures tells { let n = min (length calls.now) (length answers.old) in (k : ℕ) → k < n →
         TellsWhatStands calls.now answers.new k }
 {

@@ -1,4 +1,5 @@
-//! Sealing a record into a place that the caller holds.
+//! Sealing a record into a place that the caller holds. It stands apart from the other calls, since its clauses speak of both kinds
+//! of record.
 ghost use Rattle.std.specs.Prelude.{◌≡◌, ◌≤◌, IfErr};
 ghost use Rattle.events.specs.Limits.{max_events};
 ghost use Rattle.recorder.specs.Edits.{seal_edit};
@@ -30,6 +31,7 @@ fn check_sealing(memory: &[RawEvent], count: usize) -> Result<(), RecordFault>
 impl OpenRecord {
     /// Seals the record into the caller's place, which then holds the memory for reading; or hands the record back, and leaves
     /// the place as it is. Even so the place then counts as borrowing the memory: try again with a new one.
+    // A rule of the project: what a caller goes on using is filled where the caller holds it.
     pub fn seal<'m>(
         self,
         memory: &'m [RawEvent],
