@@ -16,3 +16,5 @@ mod session;
 mod table;
 #[cfg(test)]
 mod words;
+#[cfg(test)]
+mod worked;
