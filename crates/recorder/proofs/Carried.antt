@@ -1,5 +1,5 @@
 -- One call at a time, as it is carried out and as it is defined.
-use Rattle.std.proofs.Common.{◌≡◌, ◌≢◌, ℕ, ◌+◌, ◌-◌, ◌<◌, ◌≤◌, min, false, List, ◌++◌, length, get_or, take, drop, Some, refl, ◌∙◌, ◌⊎◌, inl, inr, arith}
+use Rattle.std.proofs.Common.{below_more, ◌≡◌, ◌≢◌, ℕ, ◌+◌, ◌-◌, ◌<◌, ◌≤◌, min, false, List, ◌++◌, length, get_or, take, drop, Some, refl, ◌∙◌, ◌⊎◌, inl, inr, arith}
 use Rattle.std.proofs.lemmas.Bool.{cases_lt}
 use Rattle.std.proofs.lemmas.List.{take_min, drop_min, get_or-set_same, get_or-set_other}
 use Rattle.std.specs.Prelude.{slice_set}
@@ -39,18 +39,16 @@ module _ (n : ℕ) (m : List RawEvent) (places end : ℕ) (is : end ≡ min plac
   link_carried i w said counts writes =
       rw (said, counts, writes, is, take_min places m, drop_min places m, link_part n m places i w) refl
 
--- one answer more while the record is sealed
-pub answers_none : (es : List EventOf) (calls : List Call) (old : List Answer) (from : ℕ) → SealedAnswers es calls old old from from
-answers_none es calls old from = record { answered = λ k low high. absurd (omega arith); before = λ k low. refl; later = λ k high. refl }
+-- one answer more, where the answers so far are those that f gives
+pub answered_more : (f : ℕ → Answer) (answers : List Answer) (k j : ℕ) (a : Answer) → k < length answers → a ≡ f k → (j < k) ⊎ (k ≤ j) → j < k + 1 → (j < k → answer_at answers j ≡ f j) → answer_at (slice_set answers k a) j ≡ f j
+answered_more f answers k j a within is (inl less) below early = get_or-set_other answers k j a Barred (omega arith) ∙ early less
+answered_more f answers k j a within is (inr more) below early = let same : j ≡ k = omega arith in rw same (get_or-set_same answers k a Barred within ∙ is)
 
-answered_more : (es : List EventOf) (calls : List Call) (new : List Answer) (k j : ℕ) (a : Answer) → k < length new → a ≡ sealed_answer es (call_at calls k) → (j < k) ⊎ (k ≤ j) → j < k + 1 → (j < k → answer_at new j ≡ sealed_answer es (call_at calls j)) → answer_at (slice_set new k a) j ≡ sealed_answer es (call_at calls j)
-answered_more es calls new k j a within is (inl less) below early = get_or-set_other new k j a Barred (omega arith) ∙ early less
-answered_more es calls new k j a within is (inr more) below early = let same : j ≡ k = omega arith in rw same (get_or-set_same new k a Barred within ∙ is)
-
+-- one more while the record is sealed
 pub answers_more : (es : List EventOf) (calls : List Call) (old new : List Answer) (from k : ℕ) (a : Answer) → SealedAnswers es calls old new from k → from ≤ k → k < length new → a ≡ sealed_answer es (call_at calls k) → SealedAnswers es calls old (slice_set new k a) from (k + 1)
 answers_more es calls old new from k a s low within is =
     record {
-      answered = λ j from_j below. answered_more es calls new k j a within is (cases_lt j k) below (s.answered j from_j);
+      answered = λ j from_j below. answered_more (λ j. sealed_answer es (call_at calls j)) new k j a within is (cases_lt j k) below (s.answered j from_j);
       before = λ j below. get_or-set_other new k j a Barred (omega arith) ∙ s.before j below;
       later = λ j above. get_or-set_other new k j a Barred (omega arith) ∙ s.later j (omega arith);
     }
@@ -64,10 +62,6 @@ not_reopen (Link p i w) never = refl
 not_reopen (Retract p) never = refl
 not_reopen (Seal p) never = refl
 
-none_more : (calls : List Call) (from k j : ℕ) → (j < k) ⊎ (k ≤ j) → NoneReopens calls from k → is_reopen (call_at calls k) ≡ false → from ≤ j → j < k + 1 → is_reopen (call_at calls j) ≡ false
-none_more calls from k j (inl less) none here low below = none j low less
-none_more calls from k j (inr more) none here low below = let same : j ≡ k = omega arith in rw same here
-
 -- the call after k others, which is c, is answered: by it the record is reopened, or it stays sealed
 module _ (es : List EventOf) (calls : List Call) (old new : List Answer) (from k : ℕ) (a : Answer) (c : Call) (s : SealedAnswers es calls old new from k × NoneReopens calls from k) (low : from ≤ k) (few : k < length calls) (room : k < length new) (read : (d : Call) → get_or calls k d ≡ c) (is : a ≡ sealed_answer es c) where
   abbrev here : call_at calls k ≡ c
@@ -77,7 +71,10 @@ module _ (es : List EventOf) (calls : List Call) (old new : List Answer) (from k
   more = answers_more es calls old new from k a s.0 low room (rw here is)
 
   pub stays_sealed : c ≢ Reopen → SealedAnswers es calls old (slice_set new k a) from (k + 1) × NoneReopens calls from (k + 1)
-  stays_sealed never = (more, λ j from_j below. none_more calls from k j (cases_lt j k) s.1 (rw here (not_reopen c never)) from_j below)
+  stays_sealed never = (
+    more,
+    λ j from_j below. below_more (λ j. from ≤ j → is_reopen (call_at calls j) ≡ false) k (λ j less low. s.1 j low less) (λ _. rw here (not_reopen c never)) j below from_j,
+  )
 
   pub is_reopened : c ≡ Reopen → length new ≡ length old → UntilReopened es calls old (slice_set new k a) from (Some (length es, k + 1))
   is_reopened reopens same = let one : k + 1 - 1 ≡ k = omega arith in rw one (more, s.1, rw (here, reopens) refl, omega arith, omega arith, refl)

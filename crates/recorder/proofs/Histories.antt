@@ -20,7 +20,8 @@ use Rattle.recorder.specs.declared.calls.Call.TheVariants.{Note, Link, Retract}
 use Rattle.recorder.specs.declared.calls.Answer.{Answer}
 use Rattle.recorder.specs.declared.calls.Answer.TheVariants.{Noted, Done}
 
-below_suc : (P : ℕ → Type 0) (n : ℕ) → ((k : ℕ) → k < n → P k) → P n → (k : ℕ) → k < suc n → P k
+-- what holds of each number below n, and of n, holds below its successor
+pub below_suc : (P : ℕ → Type 0) (n : ℕ) → ((k : ℕ) → k < n → P k) → P n → (k : ℕ) → k < suc n → P k
 below_suc P n below here k low = by (cases_lt k n)
   where
     by : (k < n) ⊎ (n ≤ k) → P k

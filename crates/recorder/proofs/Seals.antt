@@ -8,6 +8,7 @@ use Rattle.recorder.specs.Record.{without_value}
 use Rattle.recorder.specs.Calls.{call_at, answer_at, after, answer_after, told}
 use Rattle.recorder.specs.Reference.{Reference, fresh, unless_short, model_step, model_open, model_sealed}
 use Rattle.recorder.specs.History.{Seals, Reopens, IsSealed}
+use Rattle.recorder.proofs.Histories.{below_suc}
 use Rattle.recorder.specs.declared.calls.Call.{Call}
 use Rattle.recorder.specs.declared.calls.Call.TheVariants.{Note, Link, Retract, Seal, Reopen, Count, Event}
 use Rattle.recorder.specs.declared.calls.Answer.{Answer}
@@ -49,12 +50,8 @@ module _ (calls : List Call) (answers : List Answer) where
   abbrev Sealed : ℕ → Type 0
   Sealed k = IsSealed calls answers k
 
-  kept_since : (k : ℕ) (s : Sealed k) → ¬ Reopens calls answers k → (j : ℕ) → s.sealed < j → (j < k) ⊎ (k ≤ j) → j < suc k → ¬ Reopens calls answers j
-  kept_since k s not j above (inl less) below = s.stays j above less
-  kept_since k s not j above (inr more) below = let same : k ≡ j = omega arith in rw same at not
-
   sealed_on : (k : ℕ) → Sealed k → ¬ Reopens calls answers k → Sealed (suc k)
-  sealed_on k s not = record { sealed = s.sealed; before = omega (arith, s.before); seals = s.seals; stays = λ j above below. kept_since k s not j above (cases_lt j k) below }
+  sealed_on k s not = record { sealed = s.sealed; before = omega (arith, s.before); seals = s.seals; stays = λ j above below. below_suc (λ j. s.sealed < j → ¬ Reopens calls answers j) k (λ j less above. s.stays j above less) (λ _. not) j below above }
 
   sealed_by : (k : ℕ) → Seals calls answers k → Sealed (suc k)
   sealed_by k now = record { sealed = k; before = omega arith; seals = now; stays = λ j above below. absurd (omega arith) }

@@ -1,7 +1,7 @@
 -- How far the calls have been carried out.
 use Rattle.std.proofs.Common.{◌≡◌, ℕ, zero, suc, ◌+◌, ◌-◌, ◌<◌, ◌≤◌, min, true, false, List, ◌++◌, length, get_or, take, drop, is_ok, Some, None, Ok, Err, refl, sym, ap, ◌∙◌, ◌⊎◌, inl, inr, add-one, arith}
 use Rattle.std.proofs.lemmas.Bool.{cases_lt}
-use Rattle.std.proofs.lemmas.List.{get_or-set_same, get_or-set_other, length-set, length-append, length-drop, get_or-drop, ext_get_or, get_or_append_left, get_or-append_right}
+use Rattle.std.proofs.lemmas.List.{get_or-set_other, length-set, length-append, length-drop, get_or-drop, ext_get_or, get_or_append_left, get_or-append_right}
 use Rattle.std.proofs.lemmas.List.FromFn.{length-map-range_with_len, get_or-map-range_with_len}
 use Rattle.std.specs.Prelude.{slice_set}
 use Rattle.events.specs.declared.event.Event.{Event as EventOf}
@@ -19,6 +19,7 @@ use Rattle.recorder.specs.declared.fault.RecordFault.{RecordFault}
 use Rattle.recorder.specs.declared.calls.Call.{Call}
 use Rattle.recorder.specs.declared.calls.Call.TheVariants.{Seal, Reopen}
 use Rattle.recorder.specs.declared.calls.Answer.{Answer}
+use Rattle.recorder.proofs.Carried.{answered_more}
 use Rattle.recorder.proofs.Keeping.{Holds, same_after, same_answer, same_answers, sealed_run, keeps}
 use Rattle.recorder.proofs.Histories.{model_holds_what_stands}
 use Rattle.recorder.proofs.Replies.{model_tells_what_stands}
@@ -54,15 +55,11 @@ module _ (calls : List Call) (memory0 : List RawEvent) (answers0 : List Answer) 
   pub standing_none : Standing 0 memory0 answers0 0
   standing_none = record { at = refl; told = record { long = refl; answered = λ k below. absurd (omega arith); later = λ k above. refl } }
 
-  answered_at : (answers : List Answer) (k j : ℕ) (a : Answer) → k < length answers → a ≡ answer k → (j < k) ⊎ (k ≤ j) → j < k + 1 → Answered answers k → answer_at (slice_set answers k a) j ≡ answer j
-  answered_at answers k j a within is (inl less) below s = get_or-set_other answers k j a Barred (omega arith) ∙ s.answered j less
-  answered_at answers k j a within is (inr more) below s = let same : j ≡ k = omega arith in rw same (get_or-set_same answers k a Barred within ∙ is)
-
-  answered_more : (answers : List Answer) (k : ℕ) (a : Answer) → k < length answers → a ≡ answer k → Answered answers k → Answered (slice_set answers k a) (k + 1)
-  answered_more answers k a within is s =
+  one_more : (answers : List Answer) (k : ℕ) (a : Answer) → k < length answers → a ≡ answer k → Answered answers k → Answered (slice_set answers k a) (k + 1)
+  one_more answers k a within is s =
       record {
         long = omega (arith, length-set {A = Answer}, s.long);
-        answered = λ j below. answered_at answers k j a within is (cases_lt j k) below s;
+        answered = λ j below. answered_more answer answers k j a within is (cases_lt j k) below (s.answered j);
         later = λ j above. get_or-set_other answers k j a Barred (omega arith) ∙ s.later j (omega arith);
       }
 
@@ -78,7 +75,7 @@ module _ (calls : List Call) (memory0 : List RawEvent) (answers0 : List Answer) 
     pub standing_more : (a : Answer) (n' : ℕ) (memory' : List RawEvent) → OpenCall c n memory n' memory' (Ok a) → Standing n' memory' (slice_set answers k a) (k + 1)
     standing_more a n' memory' is =
         let both = made ∙ sym is in
-        record { at = after_next record_step (opened memory0) calls k ∙ ap (λ p. p.1) both; told = answered_more answers k a room (sym (ap (λ p. p.0) both)) s.told }
+        record { at = after_next record_step (opened memory0) calls k ∙ ap (λ p. p.1) both; told = one_more answers k a room (sym (ap (λ p. p.0) both)) s.told }
 
     -- a call that seals it
     module _ (places : ℕ) (seals : c ≡ Seal places) where
@@ -96,7 +93,7 @@ module _ (calls : List Call) (memory0 : List RawEvent) (answers0 : List Answer) 
       sealed_state es is = after_next record_step (opened memory0) calls k ∙ ap (λ p. p.1) made_seal ∙ rw is refl
 
       sealed_told : (es : List EventOf) → sealing ≡ Ok es → Answered (slice_set answers k Done) (k + 1)
-      sealed_told es is = answered_more answers k Done room (sym (ap (λ p. p.0) made_seal ∙ rw is refl)) s.told
+      sealed_told es is = one_more answers k Done room (sym (ap (λ p. p.0) made_seal ∙ rw is refl)) s.told
 
   -- while the record is sealed, and no call reopens it, it stays as it is
   module _ (n : ℕ) (memory : List RawEvent) (from : ℕ) (at : state from ≡ record { count = n; memory = memory; is_sealed = true }) where

@@ -1,7 +1,7 @@
--- Memory that holds the events of a record holds an open run, and memory that holds an open run is not damaged.
-use Rattle.std.proofs.Common.{◌≡◌, ℕ, zero, suc, ◌+◌, ◌-◌, ◌<◌, ◌≤◌, List, [], ◌∷◌, length, get_or, take, map, Ok, Err, Result, refl, ap, ◌∙◌, arith}
+-- Memory that is not damaged holds an open run, and memory that holds an open run is not damaged.
+use Rattle.std.proofs.Common.{◌≡◌, ℕ, zero, suc, ◌-◌, ◌≤◌, List, [], ◌∷◌, length, take, map, Ok, Err, Result, refl, ap, ◌∙◌, arith}
 use Rattle.std.proofs.lemmas.Bool.{true_from_ne_false}
-use Rattle.std.proofs.lemmas.List.{length-map, length-take, ext_get_or, get_or-map}
+use Rattle.std.proofs.lemmas.List.{length-map, length-take, get_or-map}
 use Rattle.events.specs.Limits.{max_events}
 use Rattle.events.specs.Raw.{raw_of, checked}
 use Rattle.events.specs.Run.{at, no_event, Within}
@@ -61,17 +61,6 @@ module _ (n : ℕ) (memory : List RawEvent) (few : n ≤ max_events) where
 
     passes : (i : ℕ) → 1 ≤ i → i ≤ length places → checked (place_of places i) ≡ Ok (event_of (place_of places i))
     passes i low high = passes_by places i (checked (place_of places i)) refl (w.sound i low high)
-
-    pub whole_raw : map raw_of (events_of places) ≡ places
-    whole_raw =
-        ext_get_or no_place _ _ (omega (arith, length-map {A = RawEvent} {B = Event}, length-map {A = Event} {B = RawEvent}))
-        (λ k within.
-        let same : k + 1 - 1 ≡ k = omega arith in
-        let inside : k < length places = omega (arith, length-map {A = RawEvent} {B = Event}, length-map {A = Event} {B = RawEvent}) in
-        let x = get_or places k no_place in
-        let pass : checked x ≡ Ok (event_of x) = rw same at (passes (k + 1) (omega arith) (omega arith)) in
-        get_or-map raw_of (events_of places) k no_event no_place (omega (arith, length-map {A = RawEvent} {B = Event}))
-        ∙ rw (get_or-map event_of places k no_place no_event inside) (checked_legal x (event_of x) pass).1)
 
     pub whole_run : OpenRun (events_of places)
     whole_run =
