@@ -3,13 +3,13 @@ use Rattle.std.specs.Prelude.{◌≡◌, ℕ, ◌≤◌, Bool, true, false, ◌&
 use Rattle.events.specs.Limits.{max_events}
 use Rattle.events.specs.Events.{is_load, is_store, fitting}
 use Rattle.events.specs.Raw.{Legal}
-use Rattle.events.specs.declared.event.Kind.TheVariants.{Fence}
+use Rattle.events.specs.declared.event.Kind.TheVariants.{Update as UpdateKind, Fence as FenceKind}
 use Rattle.events.specs.declared.event.Mode.TheVariants.{Relaxed}
 use Rattle.events.specs.declared.event.Event.{Event}
 
 -- what stands where there is no event: no load and no store
 abbrev pub no_event : Event
-no_event = record { thread = 0; kind = Fence; mode = Relaxed; location = 0; writer = 0 }
+no_event = record { thread = 0; kind = FenceKind; mode = Relaxed; location = 0; writer = 0 }
 
 -- the event with number i, from 1 on
 abbrev pub at : List Event → ℕ → Event
@@ -24,6 +24,12 @@ Load es i = Within es i × (is_load (at es i).kind ≡ true)
 
 abbrev pub Store : List Event → ℕ → Type 0
 Store es i = Within es i × (is_store (at es i).kind ≡ true)
+
+abbrev pub Update : List Event → ℕ → Type 0
+Update es i = Within es i × ((at es i).kind ≡ UpdateKind)
+
+abbrev pub Fence : List Event → ℕ → Type 0
+Fence es i = Within es i × ((at es i).kind ≡ FenceKind)
 
 abbrev pub SameLocation : List Event → ℕ → ℕ → Type 0
 SameLocation es a b = (at es a).location ≡ (at es b).location

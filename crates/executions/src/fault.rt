@@ -13,6 +13,10 @@ use std::fmt;
 pub enum CheckerFault {
     /// An event number that is 0 or above the count: that number.
     NoEvent(usize),
+    /// A model number that is not one of those from 1 to 5.
+    NoModel,
+    /// Not an order of the stores.
+    NotAnOrder,
 }
 
 impl Refusal for CheckerFault {
@@ -25,12 +29,15 @@ impl Refusal for CheckerFault {
     fn number(&self) -> u8 {
         match self {
             CheckerFault::NoEvent(_) => 5,
+            CheckerFault::NoModel => 8,
+            CheckerFault::NotAnOrder => 12,
         }
     }
 
     fn place(&self) -> usize {
         match self {
             CheckerFault::NoEvent(i) => *i,
+            CheckerFault::NoModel | CheckerFault::NotAnOrder => 0,
         }
     }
 

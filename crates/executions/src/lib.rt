@@ -4,4 +4,5 @@
 pub mod execution;
 pub mod fault;
 pub mod iter;
+pub mod kinds;
 pub mod relations;

@@ -1,7 +1,7 @@
-//! The two relations that every execution comes with: program order and reads-from. Besides the answer, each function's
-//! contract has a theorem about its relation, in a clause that does not look at the answer.
+//! The two relations that every execution comes with: program order and reads-from. Besides the answer, the contracts of `po` and
+//! `rf` have a theorem about the relation, in a clause that does not look at the answer.
 ghost use Rattle.std.specs.Prelude.{◌↔◌, IsTrue};
-ghost use Rattle.events.specs.Graph.{Po, Rf, PoOrders, RfReads};
+ghost use Rattle.events.specs.Graph.{Po, Rf, WriterOf, PoOrders, RfReads};
 
 use crate::execution::Execution;
 
@@ -23,4 +23,14 @@ pub fn rf<E: Execution>(x: &E, w: usize, r: usize) -> bool
 {
     // The stored number: 0 is that of no event, so no `Option` of it is asked for.
     x.event(r).is_ok_and(|load| load.kind.is_load() && usize::from(load.writer) == w)
+}
+
+/// The event that r reads from, if r is a load.
+pub fn writer<E: Execution>(x: &E, r: usize) -> Option<usize>
+    ensures { WriterOf (E.Execution.events x.now) r result }
+{
+    let Ok(load) = x.event(r) else {
+        return None;
+    };
+    Some(usize::from(load.reads_from()?))
 }

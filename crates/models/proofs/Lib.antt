@@ -1,0 +1,4 @@
+pub mod Walks
+pub mod Less
+pub mod Inside
+pub mod Orders

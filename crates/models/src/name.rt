@@ -1,0 +1,43 @@
+//! The models by number.
+ghost use Rattle.std.specs.Prelude.{◌≡◌};
+ghost use Rattle.models.specs.Numbers.{model_number, model_of};
+
+/// The five models.
+#[derive(Clone, Copy, Debug, PartialEq, Eq, Hash)]
+pub enum ModelName {
+    Rc20,
+    Ra,
+    Sra,
+    Wra,
+    Relaxed,
+}
+
+impl ModelName {
+    /// From 1 to 5.
+    pub fn number(&self) -> u8
+        ensures { result ≡ model_number self.now }
+    {
+        match self {
+            ModelName::Rc20 => 1,
+            ModelName::Ra => 2,
+            ModelName::Sra => 3,
+            ModelName::Wra => 4,
+            ModelName::Relaxed => 5,
+        }
+    }
+
+    /// The model with this number, if there is one.
+    /// From 1 to 5.
+    pub fn numbered(n: u8) -> Option<ModelName>
+        ensures { result ≡ model_of n }
+    {
+        match n {
+            1 => Some(ModelName::Rc20),
+            2 => Some(ModelName::Ra),
+            3 => Some(ModelName::Sra),
+            4 => Some(ModelName::Wra),
+            5 => Some(ModelName::Relaxed),
+            _ => None,
+        }
+    }
+}

@@ -1,0 +1,5 @@
+pub mod Pigeons
+pub mod Writing
+pub mod Walks
+pub mod Turns
+pub mod Laws
