@@ -1,7 +1,7 @@
 -- An order, entry by entry.
-use Rattle.std.proofs.Common.{◌≡◌, ℕ, ◌<◌, ◌≤◌, ◌+◌, ◌-◌, List, length, get_or, set, replicate, ⊎_elim, sym, ap, subst, ◌∙◌, arith}
-use Rattle.std.proofs.lemmas.Bool.{cases_eq, cases_lt}
-use Rattle.std.proofs.lemmas.List.{get_or-set_same, get_or-set_other, get_or-replicate, get_or_past, length-replicate}
+use Rattle.std.proofs.Common.{◌≡◌, ℕ, ◌<◌, ◌≤◌, ◌+◌, ◌-◌, List, length, get_or, set, ⊎_elim, sym, ap, subst, ◌∙◌, arith}
+use Rattle.std.proofs.lemmas.Bool.{cases_eq}
+use Rattle.std.proofs.lemmas.List.{get_or-set_same, get_or-set_other}
 use Rattle.events.specs.Run.{Store}
 use Rattle.events.specs.declared.event.Event.{Event}
 use Rattle.models.specs.Orders.{location_at}
@@ -55,8 +55,3 @@ module _ (es : List Event) (o : List ℕ) where
       pub places_more : (w : ℕ) → w ≡ get_or o i 0 → PlacesOf es o (i + 1) (set places w (i + 1))
       places_more w e =
           subst (λ x. PlacesOf es o (i + 1) (set places x (i + 1))) (sym e) (record { there = there; back = back; stores = stores; rising = rising })
-
--- nothing has a place at the start
-pub zeros : (n e : ℕ) → get_or {A = ℕ} (replicate n 0) e 0 ≡ 0
-zeros n e =
-    ⊎_elim (λ lt. get_or-replicate n e 0 0 lt) (λ ge. get_or_past (replicate n 0) e 0 (omega (arith, length-replicate {A = ℕ} n 0))) (cases_lt e n)

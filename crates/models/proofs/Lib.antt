@@ -1,3 +1,4 @@
+pub mod Marks
 pub mod Walks
 pub mod Less
 pub mod Inside

@@ -1,14 +1,15 @@
 -- The walk back along reads-from.
 use Rattle.std.proofs.Common.{ℕ, ◌≡◌, ◌<◌, ◌≤◌, ◌⊎◌, inl, inr, ⊎_elim, List, length, replicate, Bool, true, false, not, get_or, set, cond, sym, refl, subst, ◌∙◌, arith}
 use Rattle.std.specs.List.{count_by}
-use Rattle.std.proofs.lemmas.Bool.{cases_eq, cases_lt, false≢true}
-use Rattle.std.proofs.lemmas.List.{get_or-set_same, get_or-set_other, get_or-replicate, get_or_past, length-replicate}
+use Rattle.std.proofs.lemmas.Bool.{cases_eq, false≢true}
+use Rattle.std.proofs.lemmas.List.{get_or-set_same, get_or-set_other}
 use Rattle.std.proofs.lemmas.List.Sums.{sum_by-set}
 use Rattle.events.specs.Run.{FullRun}
 use Rattle.events.specs.Limits.{max_events}
 use Rattle.events.specs.Graph.{Rf}
 use Rattle.events.specs.declared.event.Event.{Event}
 use Rattle.events.specs.Relations.{◌⁺, one, more}
+use Rattle.models.proofs.Marks.{same_everywhere}
 use Rattle.models.specs.Walk.{Starts, Reaches, Seen, Walked}
 
 -- What was seen leads back to what was seen, or to where the walk stands, which r reads from.
@@ -75,4 +76,4 @@ rf_below es w r full f =
 
 -- nothing is seen at the start
 pub walked_none : (es : List Event) (a n : ℕ) → Walked es a (replicate n false)
-walked_none es a n x s = absurd (false≢true (⊎_elim (λ lt. sym (get_or-replicate n x false false lt)) (λ ge. sym (get_or_past (replicate n false) x false (omega (arith, length-replicate n false)))) (cases_lt x n) ∙ s))
+walked_none es a n x s = absurd (false≢true (sym (same_everywhere false n x) ∙ s))

@@ -1,5 +1,6 @@
 //! The models by number.
-ghost use Rattle.std.specs.Prelude.{◌≡◌};
+ghost use Rattle.std.specs.Prelude.{◌≡◌, ◌≢◌, MatchOption};
+ghost use Rattle.models.specs.declared.name.ModelName.{ModelName as Named};
 ghost use Rattle.models.specs.Numbers.{model_number, model_of};
 
 /// The five models.
@@ -29,7 +30,8 @@ impl ModelName {
     /// The model with this number, if there is one.
     /// From 1 to 5.
     pub fn numbered(n: u8) -> Option<ModelName>
-        ensures { result ≡ model_of n }
+        ensures answers { result ≡ model_of n }
+        ensures named { MatchOption result ((m : Named) → model_number m ≢ n) (λ m. model_number m ≡ n) }
     {
         match n {
             1 => Some(ModelName::Rc20),

@@ -4,20 +4,20 @@ use Rattle.confirm.proofs.by_number.confirm.Goals as goal
 
 pub returns-in-Some-Rc20 : goal.returns-in-Some-Rc20
 returns-in-Some-Rc20 g c =
-    named _ _ Rc20 _ _ _ (c.in-Some-Rc20.ensures) (c.in-Some-Rc20.field-0-is) (c.confirm_under.ensures.answers)
+    named _ _ Rc20 _ _ _ (c.in-Some-Rc20.ensures.answers) (c.in-Some-Rc20.field-0-is) (c.confirm_under.ensures.answers)
 
 pub returns-in-Some-Ra : goal.returns-in-Some-Ra
 returns-in-Some-Ra g c =
-    named _ _ Ra _ _ _ (c.in-Some-Ra.ensures) (c.in-Some-Ra.field-0-is) (c.confirm_under-in-Some-Ra.ensures.answers)
+    named _ _ Ra _ _ _ (c.in-Some-Ra.ensures.answers) (c.in-Some-Ra.field-0-is) (c.confirm_under-in-Some-Ra.ensures.answers)
 
 pub returns-in-Some-Sra : goal.returns-in-Some-Sra
 returns-in-Some-Sra g c =
-    named _ _ Sra _ _ _ (c.in-Some-Sra.ensures) (c.in-Some-Sra.field-0-is) (c.confirm_under-in-Some-Sra.ensures.answers)
+    named _ _ Sra _ _ _ (c.in-Some-Sra.ensures.answers) (c.in-Some-Sra.field-0-is) (c.confirm_under-in-Some-Sra.ensures.answers)
 
 pub returns-in-Some-Wra : goal.returns-in-Some-Wra
 returns-in-Some-Wra g c =
-    named _ _ Wra _ _ _ (c.in-Some-Wra.ensures) (c.in-Some-Wra.field-0-is) (c.confirm_under-in-Some-Wra.ensures.answers)
+    named _ _ Wra _ _ _ (c.in-Some-Wra.ensures.answers) (c.in-Some-Wra.field-0-is) (c.confirm_under-in-Some-Wra.ensures.answers)
 
 pub returns-in-Some-Relaxed : goal.returns-in-Some-Relaxed
 returns-in-Some-Relaxed g c =
-    named _ _ Relaxed _ _ _ (c.in-Some-Relaxed.ensures) (c.in-Some-Relaxed.field-0-is) (c.confirm_under-in-Some-Relaxed.ensures.answers)
+    named _ _ Relaxed _ _ _ (c.in-Some-Relaxed.ensures.answers) (c.in-Some-Relaxed.field-0-is) (c.confirm_under-in-Some-Relaxed.ensures.answers)
