@@ -23,7 +23,7 @@ use Rattle.toposort.proofs.Pigeons.{Apart}
 inside : (es : List Event) → FullRun es → (a b : ℕ) → PoRf es a b → (Between (length es) (PoRf es) ⁺) a b
 inside es full a b s = let w = step_inside es full a b s in one (w.0, w.1, s)
 
-path_of_steps : (es : List Event) (sw : Rel) → Joined es sw → (a b : ℕ) → Step sw es a b → (PoRf es ⁺) a b
+pub path_of_steps : (es : List Event) (sw : Rel) → Joined es sw → (a b : ℕ) → Step sw es a b → (PoRf es ⁺) a b
 path_of_steps es sw joined a b (inl p) = one (inl p)
 path_of_steps es sw joined a b (inr s) = joined a b s
 

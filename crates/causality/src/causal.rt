@@ -4,6 +4,7 @@ ghost use Rattle.events.specs.Limits.{max_events};
 ghost use Rattle.events.specs.Graph.{PoRf, Inside};
 ghost use Rattle.models.specs.Models.{Hb};
 ghost use Rattle.toposort.specs.Answer.{Shows};
+ghost use Rattle.toposort.specs.Listing.{Ordered};
 ghost use Rattle.toposort.specs.declared.search.Found.TheVariants.{Cycle as CycleOf};
 ghost use Rattle.relation.specs.Pairs.{has};
 ghost use Rattle.events.specs.Relations.{Acyclic};
@@ -16,7 +17,7 @@ use executions::execution::Execution;
 use executions::relations::po;
 use models::rule::{Rule, sw};
 use relation::relation::Relation;
-use toposort::search::{Found, toposort};
+use toposort::search::{Cycle, order_or_cycle};
 
 /// A run in which program order and reads-from form no cycle, with its events in causal order: the topological order of the
 /// two, lowest event first.
@@ -27,39 +28,31 @@ pub struct Causal<'a, E: Execution> {
     ghost ordered: { CausalOrder (E.Execution.events run.now) listing },
 }
 
-/// Different events, each joined to the next by program order or reads-from, and the last to the first: so many in the first places,
-/// with 0 in the others. Which cycle it is, and where it begins, is left open.
-#[derive(Drop)]
-pub struct Cycle {
-    pub events: [u16; MAX_EVENTS],
-    pub length: usize,
-}
-
-// The causal order of a run, or a cycle of program order and reads-from.
-fn order_or_cycle<E: Execution>(run: &E, listing: &mut [u16; MAX_EVENTS]) -> Found
-    ensures { Shows (length (E.Execution.events run.now)) (PoRf (E.Execution.events run.now)) listing.old listing.new result }
-{
-    match toposort(&CausalGraph { run }, listing) {
-        Ok(found) => found,
-        Err(_) => unreachable!(),
-    }
-}
-
 impl<'a, E: Execution> Causal<'a, E> {
     /// The causal order of a run, or a cycle where causality is broken.
     pub fn of(run: &'a E) -> Result<Causal<'a, E>, Cycle>
         ensures { MatchResult result
             (λ c. (c.run.now ≡ run.now) × Acyclic (PoRf (E.Execution.events run.now)))
-            (λ c. ¬ Acyclic (PoRf (E.Execution.events run.now)) × Shows (length (E.Execution.events run.now)) (PoRf (E.Execution.events run.now)) (replicate max_events 0) c.events (CycleOf c.length)) }
+            (λ c. ¬ Acyclic (PoRf (E.Execution.events run.now)) × Shows (length (E.Execution.events run.now)) (PoRf (E.Execution.events run.now)) (replicate max_events 0) c.nodes (CycleOf c.length)) }
     {
-        let mut listing = [0; MAX_EVENTS];
-        match order_or_cycle(run, &mut listing) {
-            Found::Listing => Ok(Causal { run, listing }),
-            Found::Cycle(length) => Err(Cycle {
-                events: listing,
-                length,
-            }),
+        match order_or_cycle(&CausalGraph { run }) {
+            Ok(listing) => Ok(Causal { run, listing }),
+            Err(cycle) => Err(cycle),
         }
+    }
+
+    /// The run.
+    pub fn run(&self) -> &'a E
+        ensures { result.now ≡ self.now.run.now }
+    {
+        self.run
+    }
+
+    /// The events of the run in causal order.
+    pub fn causal_order(&self) -> &[u16]
+        ensures { Ordered (length (E.Execution.events self.now.run.now)) (PoRf (E.Execution.events self.now.run.now)) result.now }
+    {
+        &self.listing[..self.run.count()]
     }
 
     // Whether a single step of happens-before leads from a to b.

@@ -1,11 +1,9 @@
 -- Pairs of events that break an axiom.
-use Rattle.std.specs.Prelude.{◌≢◌, ℕ, IsTrue, List}
+use Rattle.std.specs.Prelude.{◌≢◌, ℕ, List}
 use Rattle.events.specs.Relations.{Rel, ◌⨾◌, ◌？, ◌⁻¹}
 use Rattle.events.specs.Run.{Within, Store, Update}
 use Rattle.events.specs.Graph.{Rf}
 use Rattle.events.specs.declared.event.Event.{Event}
-use Rattle.relation.specs.Pairs.{has}
-use Rattle.relation.specs.declared.relation.Relation.{Relation}
 use Rattle.models.specs.Models.{Fr, AtOneLocation}
 use Rattle.models.specs.declared.axiom.Axiom.{Axiom}
 use Rattle.models.specs.declared.axiom.Axiom.TheVariants.{Causality, WriteCoherence, ReadCoherence, Atomicity}
@@ -32,10 +30,6 @@ PairBreaks ReadCoherence Weak es hb mo a b = Store es b × hb b a × WriterBefor
 PairBreaks Atomicity Location es hb mo a b = Fr es mo a b × mo b a
 PairBreaks Atomicity Whole es hb mo a b = Fr es mo a b × mo b a
 PairBreaks Atomicity Weak es hb mo a b = Twins es a b
-
--- the pairs that a relation has
-abbrev pub Pairs : Relation → Rel
-Pairs r a b = IsTrue (has r a b)
 
 -- a pair of the run breaks the axiom
 abbrev pub HasBreakingPair : Axiom → Scope → List Event → Rel → Rel → Type 0

@@ -7,7 +7,8 @@ ghost use Rattle.models.specs.Orders.{Mo};
 ghost use Rattle.models.specs.Models.{Holds};
 ghost use Rattle.models.specs.declared.axiom.Axiom.TheVariants.{Causality, WriteCoherence};
 ghost use Rattle.confirm.specs.Confirm.{Finds};
-ghost use Rattle.confirm.specs.Breaks.{Twins, WriterBefore, PairBreaks, Pairs, HasBreakingPair};
+ghost use Rattle.relation.specs.Pairs.{Pairs};
+ghost use Rattle.confirm.specs.Breaks.{Twins, WriterBefore, PairBreaks, HasBreakingPair};
 
 use crate::candidate::Candidate;
 use crate::finding::Finding;

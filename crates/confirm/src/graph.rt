@@ -15,7 +15,7 @@ impl<'a, E: Execution> Graph for HbMo<'a, E> {
     ghost use Rattle.std.specs.Prelude.{length};
     ghost use Rattle.events.specs.Relations.{◌∪◌};
     ghost use Rattle.models.specs.Orders.{Mo};
-    ghost use Rattle.confirm.specs.Breaks.{Pairs};
+    ghost use Rattle.relation.specs.Pairs.{Pairs};
 
     ghost size = { λ g. length (E.Execution.events g.candidate.now.run.now) };
 

@@ -3,7 +3,7 @@ use Rattle.std.specs.Prelude.{◌≡◌, ℕ, ◌≤◌, Bool, true, false, ◌&
 use Rattle.events.specs.Limits.{max_events}
 use Rattle.events.specs.Events.{is_load, is_store, fitting}
 use Rattle.events.specs.Raw.{Legal}
-use Rattle.events.specs.declared.event.Kind.TheVariants.{Update as UpdateKind, Fence as FenceKind}
+use Rattle.events.specs.declared.event.Kind.TheVariants.{Write as WriteKind, Update as UpdateKind, Fence as FenceKind}
 use Rattle.events.specs.declared.event.Mode.TheVariants.{Relaxed}
 use Rattle.events.specs.declared.event.Event.{Event}
 
@@ -24,6 +24,9 @@ Load es i = Within es i × (is_load (at es i).kind ≡ true)
 
 abbrev pub Store : List Event → ℕ → Type 0
 Store es i = Within es i × (is_store (at es i).kind ≡ true)
+
+abbrev pub Write : List Event → ℕ → Type 0
+Write es i = Within es i × ((at es i).kind ≡ WriteKind)
 
 abbrev pub Update : List Event → ℕ → Type 0
 Update es i = Within es i × ((at es i).kind ≡ UpdateKind)

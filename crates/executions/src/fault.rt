@@ -15,8 +15,12 @@ pub enum CheckerFault {
     NoEvent(usize),
     /// A model number that is not one of those from 1 to 5.
     NoModel,
+    /// A buffer that has fewer places than a run may have events.
+    ShortBuffer,
     /// Not an order of the stores.
     NotAnOrder,
+    /// A run with updates, judged at whole scope: the lowest update.
+    HasUpdates(usize),
 }
 
 impl Refusal for CheckerFault {
@@ -30,14 +34,16 @@ impl Refusal for CheckerFault {
         match self {
             CheckerFault::NoEvent(_) => 5,
             CheckerFault::NoModel => 8,
+            CheckerFault::ShortBuffer => 9,
             CheckerFault::NotAnOrder => 12,
+            CheckerFault::HasUpdates(_) => 24,
         }
     }
 
     fn place(&self) -> usize {
         match self {
-            CheckerFault::NoEvent(i) => *i,
-            CheckerFault::NoModel | CheckerFault::NotAnOrder => 0,
+            CheckerFault::NoEvent(i) | CheckerFault::HasUpdates(i) => *i,
+            CheckerFault::NoModel | CheckerFault::ShortBuffer | CheckerFault::NotAnOrder => 0,
         }
     }
 

@@ -1,7 +1,8 @@
 -- A relation as a test on two numbers, and the bits that it is read from.
-use Rattle.std.specs.Prelude.{ℕ, ◌+◌, ◌-◌, ◌/◌, ◌%◌, ◌≤◌, Bool, ◌&&◌, List, [], nat_le, ◌==◌, slice_index_or}
+use Rattle.std.specs.Prelude.{ℕ, ◌+◌, ◌-◌, ◌/◌, ◌%◌, ◌≤◌, Bool, ◌&&◌, List, [], nat_le, ◌==◌, slice_index_or, IsTrue}
 use Rattle.std.specs.Int.{bit_at}
 use Rattle.events.specs.Limits.{max_events}
+use Rattle.events.specs.Relations.{Rel}
 use Rattle.relation.specs.declared.relation.Relation.{Relation}
 
 -- n may be the number of an event
@@ -33,3 +34,7 @@ has_member row a = in_range a && bit_at (slice_index_or row (word_of a) 0) (bit_
 -- the pair (a, b) is in the relation: the row of b has the number a
 unfoldable pub has : Relation → ℕ → ℕ → Bool
 has r a b = in_range b && has_member (slice_index_or r.rows (b - 1) []) a
+
+-- the pairs that a relation has
+abbrev pub Pairs : Relation → Rel
+Pairs r a b = IsTrue (has r a b)

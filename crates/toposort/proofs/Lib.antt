@@ -3,3 +3,4 @@ pub mod Writing
 pub mod Walks
 pub mod Turns
 pub mod Laws
+pub mod Same

@@ -1,10 +1,12 @@
 //! The search: a topological order of a graph, or a cycle.
-ghost use Rattle.std.specs.Prelude.{◌↔◌, ◌≤◌, IsTrue, length};
+ghost use Rattle.std.specs.Prelude.{◌↔◌, ◌≤◌, IsTrue, length, replicate, MatchResult};
+ghost use Rattle.events.specs.Limits.{max_events};
 ghost use Rattle.events.specs.Relations.{Acyclic};
 ghost use Rattle.toposort.specs.Graph.{Between};
-ghost use Rattle.toposort.specs.Answer.{Answers, Shows};
+ghost use Rattle.toposort.specs.Answer.{Answers, Shows, Writes};
 ghost use Rattle.toposort.specs.Cycle.{Tells, TwoOrMore};
-ghost use Rattle.toposort.specs.Listing.{EveryNode, OneListing, EdgesForward};
+ghost use Rattle.toposort.specs.Listing.{Ordered, EveryNode, OneListing, EdgesForward};
+ghost use Rattle.toposort.specs.declared.search.Found.TheVariants.{Cycle as CycleOf};
 
 use crate::cycle::write_cycle;
 use crate::graph::Graph;
@@ -63,14 +65,37 @@ pub fn toposort<G: Graph>(graph: &G, listing: &mut [u16]) -> Result<Found, Short
     Ok(search(graph, listing))
 }
 
+/// Different nodes, each with an edge to the next, and the last with one to the first: so many in the first places, with 0 in the
+/// others. Which cycle it is, and where it begins, is left open.
+#[derive(Drop)]
+pub struct Cycle {
+    pub nodes: [u16; MAX_EVENTS],
+    pub length: usize,
+}
+
+/// The same search, for a caller that holds no listing: a topological order in the first places, with 0 in the others, or a cycle.
+pub fn order_or_cycle<G: Graph>(graph: &G) -> Result<[u16; MAX_EVENTS], Cycle>
+    ensures { MatchResult result
+        (λ listing. Writes (G.size graph.now) (Ordered (G.size graph.now) (G.edge graph.now)) (replicate max_events 0) listing)
+        (λ c. Shows (G.size graph.now) (G.edge graph.now) (replicate max_events 0) c.nodes (CycleOf c.length)) }
+{
+    let mut listing = [0; MAX_EVENTS];
+    match toposort(graph, &mut listing) {
+        Ok(Found::Listing) => Ok(listing),
+        Ok(Found::Cycle(length)) => Err(Cycle {
+            nodes: listing,
+            length,
+        }),
+        Err(ShortListing) => unreachable!(),
+    }
+}
+
 /// Whether the graph has no cycle. Where all edges are between nodes this says that the edges are acyclic.
 pub fn is_acyclic<G: Graph>(graph: &G) -> bool
     ensures { IsTrue result ↔ Acyclic (Between (G.size graph.now) (G.edge graph.now)) }
 {
-    let mut listing = [0; MAX_EVENTS];
-    match toposort(graph, &mut listing) {
-        Ok(Found::Listing) => true,
-        Ok(Found::Cycle(_)) => false,
-        Err(ShortListing) => unreachable!(),
+    match order_or_cycle(graph) {
+        Ok(_) => true,
+        Err(_) => false,
     }
 }

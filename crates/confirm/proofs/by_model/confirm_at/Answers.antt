@@ -1,5 +1,5 @@
 use Rattle.std.proofs.Common.{ap, sym, ◌∙◌, subst}
-use Rattle.confirm.specs.Breaks.{Pairs}
+use Rattle.relation.specs.Pairs.{Pairs}
 use Rattle.events.specs.Graph.{Inside}
 use Rattle.confirm.proofs.Findings.{confirmed}
 use Rattle.confirm.proofs.by_model.confirm_at.Goals as goal

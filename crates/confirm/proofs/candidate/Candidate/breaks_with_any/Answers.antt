@@ -2,7 +2,8 @@ use Rattle.std.proofs.Common.{below_more}
 use Rattle.std.proofs.lemmas.Bool.{false≢true}
 use Rattle.events.specs.Run.{Within}
 use Rattle.models.specs.Orders.{Mo}
-use Rattle.confirm.specs.Breaks.{PairBreaks, Pairs}
+use Rattle.relation.specs.Pairs.{Pairs}
+use Rattle.confirm.specs.Breaks.{PairBreaks}
 use Rattle.confirm.proofs.candidate.Candidate.breaks_with_any.Goals as goal
 
 pub loop-b-preserved : goal.loop-b-preserved

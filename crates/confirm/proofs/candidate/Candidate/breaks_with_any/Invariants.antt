@@ -2,7 +2,8 @@
 use Rattle.std.proofs.Common.{ℕ, ◌<◌}
 use Rattle.events.specs.Run.{Within}
 use Rattle.models.specs.Orders.{Mo}
-use Rattle.confirm.specs.Breaks.{PairBreaks, Pairs}
+use Rattle.relation.specs.Pairs.{Pairs}
+use Rattle.confirm.specs.Breaks.{PairBreaks}
 use Rattle.confirm.proofs.candidate.Candidate.breaks_with_any.Given as goal
 
 abbrev pub invariant-loop-b : goal.invariant-loop-b

@@ -1,0 +1,4 @@
+pub mod Judges
+pub mod Search
+pub mod Ring
+pub mod Found

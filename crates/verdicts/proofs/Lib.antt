@@ -1,0 +1,10 @@
+pub mod Chains
+pub mod Lists
+pub mod Along
+pub mod Cycles
+pub mod Excluded
+pub mod First
+pub mod OneLaid
+pub mod ChainsSatisfy
+pub mod EventsSatisfy
+pub mod Same
