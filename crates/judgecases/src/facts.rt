@@ -13,7 +13,8 @@ pub(crate) struct Facts<'a, R: Rule, E: Execution> {
 }
 
 impl<'a, R: Rule, E: Execution> Facts<'a, R, E> {
-    // Whether steps of program order and of the rule lead from a to e: all events that they lead to are found, one after another.
+    // Whether steps of program order and of the rule lead from a to e: all events that they lead to are found, one after
+    // another.
     fn happens_before(&self, a: usize, e: usize) -> bool {
         let mut marks = [false; 513];
         let mut found = [a; 513];

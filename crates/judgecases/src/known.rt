@@ -231,7 +231,17 @@ location | round 1 2
 whole | refused 24 3
 weak | weak 1 2 3
 
+overwritten by the last event: 1.R.acq.1.4 1.R.rlx.1.3 2.W.rlx.1 2.W.rel.1
+location | round 1 2
+whole | whole 2
+weak | weak 3 4 2 | weak 3 4 2 | order
+
 through two places of a chain: 1.W.rlx.1 2.U.rlx.1.1 3.W.rlx.1 4.R.rlx.1.3 4.R.rlx.1.1 5.R.rlx.1.2 5.R.rlx.1.3
+location | round 1 2
+whole | refused 24 2
+weak | order
+
+from the end of each chain to the head of the other: 1.W.rlx.1 2.U.rlx.1.1 5.R.rlx.1.2 5.R.rlx.1.5 3.W.rlx.1 4.U.rlx.1.5 6.R.rlx.1.6 6.R.rlx.1.1
 location | round 1 2
 whole | refused 24 2
 weak | order
@@ -278,6 +288,11 @@ no updates: 1.W.rlx.1 1.W.rlx.2 2.R.rlx.2.2 2.W.rlx.1 3.R.rlx.1.4 3.R.rlx.1.1
 location | order 4 1 2 | round 1 2 | order 4 1 2
 whole | order 4 1 2 | whole * | order 4 1 2
 weak | order | weak 1 4 6 | order
+
+known to the first event alone: 1.R.acq.1.3 2.R.rlx.1.4 2.W.rel.1 3.W.rlx.1
+location | order 4 3
+whole | order 4 3 | order 4 3 | order 3 4
+weak | order
 
 many updates: 3.W.rlx.7 1.U.rlx.7.3 2.U.rlx.7.1
 location | order 1 3 2

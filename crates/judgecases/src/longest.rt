@@ -133,12 +133,6 @@ fn relay_at_location_scope(rt: HostRuntime) -> Result<(), Fail> {
 }
 
 #[test]
-fn relay_without_rule(rt: HostRuntime) -> Result<(), Fail> {
-    let order = relay_order(rt.alloc(), false)?;
-    check::<AtLocation<EmptyRule>>(&rt, rt.alloc(), &EmptyRule, Plan::Relay, order.as_str())
-}
-
-#[test]
 fn relay_at_whole_scope(rt: HostRuntime) -> Result<(), Fail> {
     let order = relay_order(rt.alloc(), false)?;
     check::<AtWhole<ReadsFromRule>>(&rt, rt.alloc(), &ReadsFromRule, Plan::Relay, order.as_str())

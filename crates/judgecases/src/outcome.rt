@@ -31,8 +31,8 @@ fn order_text(heap: Global, stores: &[u16]) -> Result<String, AllocError> {
     Ok(text)
 }
 
-// A word, and then the order that was laid; or the numbers of the violation, and of a step back from where to where it leads; or
-// those of a refusal.
+// A word, and then the order that was laid; or the numbers of the violation, and of a step back from where to where it
+// leads; or those of a refusal.
 pub(crate) fn told(heap: Global, answer: &Answer, buffers: &Buffers) -> Result<String, AllocError> {
     match answer {
         Ok(Verdict::Consistent(stores)) => order_text(heap, buffers.first_stores(*stores)),

@@ -68,8 +68,8 @@ fn check_lengths(
     check_scopes(rt, heap, &EmptyRule, &sealed, lengths, expected)
 }
 
-// Runs, and what is expected of each at location, whole and weak scope by every rule, if the buffers are long enough: one that is
-// consistent, and one with each kind of violation.
+// Runs, and what is expected of each at location, whole and weak scope by every rule, if the buffers are long enough: one
+// that is consistent, and one with each kind of violation.
 const RUNS: [(&str, Expected); 7] = [
     ("", ["order", "order", "order"]),
     (

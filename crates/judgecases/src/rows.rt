@@ -26,7 +26,8 @@ fn check_at<R: Rule, E: Execution>(
     }
 }
 
-// A row is a scope, and what is expected there with the rule of RC20, with reads-from and with none; or once, if it is one for all.
+// A row is a scope, and what is expected there with the rule of RC20, with reads-from and with none; or once, if it is one
+// for all.
 fn check_row<'x, E: Execution>(
     rt: &impl Abort,
     heap: Global,

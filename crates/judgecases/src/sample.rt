@@ -1,5 +1,5 @@
-// A sample of random runs. It was drawn so that each outcome comes by every rule at every scope where it may, with cycles of several
-// lengths; and so that most ways to misread a definition change what is told somewhere.
+// A sample of random runs. It was drawn so that each outcome comes by every rule at every scope where it may, with cycles
+// of several lengths; and so that most ways to misread a definition change what is told somewhere.
 use crate::rows::check_groups;
 use std::test::Fail;
 
