@@ -1,5 +1,5 @@
 -- What is found of a run tells whether some order satisfies the rule.
-use Rattle.std.proofs.Common.{◌≡◌, ◌↔◌, inl, inr, ⊎_elim, ℕ, List, length, take, drop, Ok, Err, Result, refl, sym, subst, ◌≤◌, arith}
+use Rattle.std.proofs.Common.{◌≡◌, ◌↔◌, inl, inr, ⊎_elim, ℕ, List, length, take, drop, Ok, Err, Some, Option, Result, refl, sym, ap, subst, ◌∙◌, ◌≤◌, arith}
 use Rattle.std.proofs.lemmas.Bool.{cases_lt}
 use Rattle.std.proofs.lemmas.List.{length-take-le}
 use Rattle.events.specs.Limits.{max_events}
@@ -10,10 +10,11 @@ use Rattle.events.specs.Relations.{Rel, ◌⁺, Acyclic}
 use Rattle.events.specs.Paths.{path_through}
 use Rattle.executions.specs.declared.fault.CheckerFault.{CheckerFault}
 use Rattle.models.specs.Joined.{Joined}
-use Rattle.models.specs.Models.{Hb, Holds, Satisfies}
+use Rattle.models.specs.Models.{Hb, Holds, Satisfies, rule_of, scope_of}
 use Rattle.models.specs.Orders.{IsOrder, Mo}
 use Rattle.models.specs.declared.axiom.Axiom.{Axiom}
 use Rattle.models.specs.declared.axiom.Axiom.TheVariants.{Causality, WriteCoherence, ReadCoherence, Atomicity}
+use Rattle.models.specs.declared.name.ModelName.{ModelName}
 use Rattle.models.specs.declared.scope.Scope.{Scope}
 use Rattle.models.specs.declared.scope.Scope.TheVariants.{Location, Whole, Weak}
 use Rattle.causality.proofs.Orders.{path_of_steps, hb_inside}
@@ -32,7 +33,7 @@ use Rattle.verdicts.proofs.Same.{cycle_same, before_more, reads_more, violates_m
 use Rattle.judge.specs.Found.{NoneLeft, Concludes}
 use Rattle.toposort.specs.Listing.{Ordered}
 use Rattle.chains.proofs.Orders.{order_causal}
-use Rattle.judge.specs.Judges.{Short, NoUpdate, Says, Judges, Decides, RulesOut}
+use Rattle.judge.specs.Judges.{Short, NoUpdate, Says, Judges, JudgesUnder, Decides, RulesOut}
 
 -- steps of program order and reads-from are the same under any happens-before
 any_causal_step : (es : List Event) (hb other : Rel) (s : Step) → StepHolds IsPoOrRf es hb s → StepHolds IsPoOrRf es other s
@@ -113,3 +114,8 @@ says_at es run_es e full sw joined order ordered single scope s is admits hb sam
 -- long enough for the steps of any cycle
 pub room_for : (order : List ℕ) (steps : List Step) → ¬ Short order steps → max_events ≤ length steps
 room_for order steps long = ⊎_elim (λ less. absurd (long (inr less))) (λ ge. ge) (cases_lt (length steps) max_events)
+
+-- what is judged under the model that a number names
+pub named : (n : Option ModelName) (k m : ModelName) (es : List Event) (order order_now : List ℕ) (steps steps_now : List Step) (r : Result Verdict CheckerFault) →
+    Some k ≡ n → k ≡ m → Judges (scope_of m) (rule_of m es) es order order_now steps steps_now r → JudgesUnder n es order order_now steps steps_now r
+named n k m es order order_now steps steps_now r is same j = subst (λ x. JudgesUnder x es order order_now steps steps_now r) (ap Some (sym same) ∙ is) j

@@ -1,13 +1,14 @@
 -- What judging a run answers, and what it leaves in the two buffers.
-use Rattle.std.specs.Prelude.{◌≡◌, ◌⊎◌, ◌↔◌, ℕ, ◌<◌, ◌≤◌, List, length, take, drop, Ok, Err, Result}
+use Rattle.std.specs.Prelude.{◌≡◌, ◌⊎◌, ◌↔◌, ℕ, ◌<◌, ◌≤◌, List, length, take, drop, Some, None, Ok, Err, Option, Result}
 use Rattle.events.specs.Limits.{max_events}
 use Rattle.events.specs.Relations.{Rel}
 use Rattle.events.specs.Run.{Update}
 use Rattle.events.specs.declared.event.Event.{Event}
 use Rattle.executions.specs.declared.fault.CheckerFault.{CheckerFault}
-use Rattle.executions.specs.declared.fault.CheckerFault.TheVariants.{ShortBuffer, HasUpdates}
+use Rattle.executions.specs.declared.fault.CheckerFault.TheVariants.{NoModel, ShortBuffer, HasUpdates}
 use Rattle.models.specs.Orders.{IsOrder, Mo}
-use Rattle.models.specs.Models.{Hb, Satisfies}
+use Rattle.models.specs.Models.{Hb, Satisfies, rule_of, scope_of}
+use Rattle.models.specs.declared.name.ModelName.{ModelName}
 use Rattle.models.specs.declared.scope.Scope.{Scope}
 use Rattle.models.specs.declared.scope.Scope.TheVariants.{Whole}
 use Rattle.verdicts.specs.Numbers.{step_count, IsConsistent}
@@ -81,3 +82,8 @@ Decides scope sw es (Err fault) = Unit {0}
 abbrev pub RulesOut : Scope → Rel → List Event → Type 0
 RulesOut scope sw es =
     FitsScope scope es → (v : Violation) (ss : List Step) → Violates scope es (Hb sw es) v ss → ¬ Allowed scope sw es
+
+-- the same under the model that a number names, if it names one
+abbrev pub JudgesUnder : Option ModelName → List Event → List ℕ → List ℕ → List Step → List Step → Result Verdict CheckerFault → Type 0
+JudgesUnder (Some m) es order order_now steps steps_now r = Judges (scope_of m) (rule_of m es) es order order_now steps steps_now r
+JudgesUnder None es order order_now steps steps_now r = (r ≡ Err NoModel) × (order_now ≡ order) × (steps_now ≡ steps)

@@ -2,6 +2,7 @@
 #![tactic(auto)]
 
 pub mod by_model;
+pub mod by_number;
 mod by_scope;
 mod joins;
 mod refusals;

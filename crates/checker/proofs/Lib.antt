@@ -1,0 +1,4 @@
+pub mod Weaker
+pub mod Alike
+pub mod HappensBefore
+pub mod Verdicts

@@ -1,0 +1,4 @@
+pub mod Runs
+pub mod Forced
+pub mod Judged
+pub mod Examples

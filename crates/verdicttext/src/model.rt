@@ -1,0 +1,24 @@
+//! A model as one word.
+ghost use Rattle.std.specs.Prelude.{Some};
+ghost use Rattle.verdicttext.specs.Text.{model_word};
+
+use models::name::ModelName;
+use std::fmt;
+
+/// A model's word: RC20, RA, SRA, WRA or RELAXED.
+#[derive(Clone, Copy, Debug)]
+pub struct ModelWord(pub ModelName);
+
+impl fmt::Display for ModelWord {
+    ghost output = { λ w. Some (model_word w.0) };
+
+    fn fmt<W: fmt::Write>(&self, f: &mut fmt::Formatter<W>) -> fmt::Result {
+        f.write_str(match self.0 {
+            ModelName::Rc20 => "RC20",
+            ModelName::Ra => "RA",
+            ModelName::Sra => "SRA",
+            ModelName::Wra => "WRA",
+            ModelName::Relaxed => "RELAXED",
+        })
+    }
+}

@@ -1,0 +1,5 @@
+//! Executions seen in other modes, and else as they are.
+#![tactic(auto)]
+
+pub mod relaxed;
+pub mod strengthened;
