@@ -64,7 +64,7 @@ back: 1.W.rlx.1 2.U.rlx.1.1 2.R.rlx.1.1
 65535 1 | xxxxx
 | xxx3x
 
-wheel: 1.R.rlx.1.4 1.W.rlx.2 2.R.rlx.2.2 2.W.rlx.1
+load buffering: 1.R.rlx.1.4 1.W.rlx.2 2.R.rlx.2.2 2.W.rlx.1
 4 2 | 111x1
 2 4 | xxxxx
 | xxx1x

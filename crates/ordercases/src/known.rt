@@ -9,7 +9,7 @@ const SHAPES: &str = "
 no events: |
 | 000 000 000
 
-wedge: 1.W.rlx.1 2.U.rlx.1.1 3.W.rlx.1 3.R.rlx.1.2 |
+update in between: 1.W.rlx.1 2.U.rlx.1.1 3.W.rlx.1 3.R.rlx.1.2 |
 1 2 3 | 330 330 330
 1 3 2 | 440 440 440
 2 1 3 | 230 220 230
