@@ -13,8 +13,8 @@ draw.py makes of the code. Each is an edit of a copy of crates/, checked as an e
     same      CRATE NAME KIND: why the code means the same with it (same.txt)
     bad       CRATE NAME KIND: why it is no bug: it cannot be applied, or does not compile
 
-and at the end how many of each. With --table the lines are rows of Markdown. The status is 1 if a bug survived, or if one that was
-written by hand is stopped or bad: of those that are drawn many do not compile."""
+and at the end how many of each. With --table the lines are rows of Markdown. The status is 1 if a bug survived, or if one that
+was written by hand is stopped or bad: of those that are drawn many do not compile."""
 import argparse
 import re
 import shutil
@@ -108,7 +108,8 @@ HEAD = re.compile(r"\s*(?:pub(?:\(crate\))? )?(?:final )?(?:fn (\w+)|const (\w+)
 def function_at(path, line):
     """The function, or the constant, in whose text a line stands."""
     heads = (HEAD.match(text) for text in path.read_text().split("\n")[:line])
-    return [head.group(1) or head.group(2) for head in heads if head][-1]
+    names = [head.group(1) or head.group(2) for head in heads if head]
+    return names[-1] if names else ""
 
 
 def first_error(crate, said):

@@ -1,5 +1,6 @@
 //! A model as one word.
 ghost use Rattle.std.specs.Prelude.{Some};
+ghost use Rattle.std.specs.Fmt.{styled_text};
 ghost use Rattle.verdicttext.specs.Text.{model_word};
 
 use models::name::ModelName;
@@ -12,8 +13,10 @@ pub struct ModelWord(pub ModelName);
 impl fmt::Display for ModelWord {
     ghost output = { λ w. Some (model_word w.0) };
 
+    ghost styled_output = { λ w s. Some (styled_text s (model_word w.0)) };
+
     fn fmt<W: fmt::Write>(&self, f: &mut fmt::Formatter<W>) -> fmt::Result {
-        f.write_str(match self.0 {
+        f.pad(match self.0 {
             ModelName::Rc20 => "RC20",
             ModelName::Ra => "RA",
             ModelName::Sra => "SRA",
