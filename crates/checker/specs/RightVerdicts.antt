@@ -5,8 +5,8 @@ use Rattle.events.specs.Run.{FullRun}
 use Rattle.events.specs.declared.event.Event.{Event}
 use Rattle.events.specs.declared.raw.RawEvent.{RawEvent}
 use Rattle.executions.specs.declared.fault.CheckerFault.{CheckerFault}
-use Rattle.recorder.specs.Replay.{KeepsToReference}
-use Rattle.recorder.specs.declared.calls.Call.{Call}
+use Rattle.sessions.specs.Replay.{KeepsToReference}
+use Rattle.sessions.specs.declared.calls.Call.{Call}
 use Rattle.models.specs.Models.{Hb}
 use Rattle.models.specs.declared.scope.Scope.{Scope}
 use Rattle.confirm.specs.Confirm.{Confirms}
@@ -28,8 +28,9 @@ Confirmed scope sw es order_now (Err fault) = Unit {0}
 -- Scope, rule, run and buffers are those of a call of the judge, and r is its answer. The fields `records` and `related` speak of all
 -- records and of all runs.
 pub record RightVerdicts (scope : Scope) (sw : Rel) (es : List Event) (order order_now : List ℕ) (steps steps_now : List Step) (r : Result Verdict CheckerFault) : Type 0 where
-  -- whatever the calls on a record and its memory, every answer and what is sealed are those of a list that no call's memory is shown to
-  pub records : (calls : List Call) (memory : List RawEvent) → KeepsToReference calls memory
+  -- whatever the calls on a record, its memory and the other memory that calls are handed, every answer and what is sealed are those
+  -- of a list that no memory is shown to
+  pub records : (calls : List Call) (memory others : List RawEvent) → KeepsToReference calls memory others
   -- the answer, and every place of the buffers: a refusal, the order that is laid, or the steps of a violation of the first kind that there is
   pub judges : Judges scope sw es order order_now steps steps_now r
   -- consistent exactly where some order satisfies the rule

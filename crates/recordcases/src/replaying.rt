@@ -1,7 +1,8 @@
 // Calls given as values, carried out one after another.
 use crate::words::{call, memory, said};
-use recorder::calls::{Answer, Call};
-use recorder::replay::replay;
+use sessions::calls::{Answer, Call};
+use sessions::handed::ShortPart;
+use sessions::replay::replay;
 use std::alloc::Global;
 use std::process::Abort;
 use std::test::Fail;
@@ -82,8 +83,46 @@ count            | barred
 event 1          | barred
 ";
 
+// Calls that are handed other memory, among others. None of these is obeyed, and while the record is sealed all are barred.
+const OTHER: &str = "
+note o0+511 1 2 2 1  | refused 9 0
+retract o0+511       | refused 9 0
+seal o0+0            | refused 9 0
+note 512 1 2 2 1     | noted 1
+note o0+511 2 1 1 1  | refused 9 0
+note o0+511 9 9 9 99 | refused 9 0
+note 512 2 1 1 1     | noted 2
+link o0+511 2 1      | refused 9 0
+link o2+511 2 1      | refused 9 0
+seal 512             | refused 23 2
+link 512 2 1         | done
+link o0+511 2 0      | refused 9 0
+link o0+511 3 9      | refused 9 0
+retract o0+511       | refused 9 0
+retract o511+1       | refused 9 0
+seal o0+511          | refused 9 0
+seal o89+511         | refused 9 0
+seal o600+511        | refused 9 0
+seal o999+0          | refused 9 0
+seal 512             | done
+note o0+511 1 2 2 1  | barred
+link o0+511 2 0      | barred
+retract o0+511       | barred
+seal o0+511          | barred
+count                | count 2
+event 1              | T1 W rel L1
+event 2              | T2 R acq L1 from 1
+reopen               | done
+retract o1+511       | refused 9 0
+seal o0+511          | refused 9 0
+retract 512          | done
+retract o0+511       | refused 9 0
+retract 512          | done
+retract o0+511       | refused 9 0
+";
+
 // Calls, how many places there are for answers and how many of memory, and what these hold afterwards.
-const RUNS: [(&str, usize, usize, &str); 9] = [
+const RUNS: [(&str, usize, usize, &str); 13] = [
     (SCRIPT, 0, 513, ""),
     (SCRIPT, 4, 513, ""),
     (SCRIPT, 5, 513, "1.2.2.1"),
@@ -93,22 +132,63 @@ const RUNS: [(&str, usize, usize, &str); 9] = [
     (SCRIPT, 50, 513, "1.2.2.1 2.1.1.1 1.3.3.1"),
     (SHORT, 7, 511, ""),
     (SHORT, 7, 0, ""),
+    (OTHER, 3, 513, ""),
+    (OTHER, 9, 513, "1.2.2.1 2.1.1.1"),
+    (OTHER, 24, 513, "1.2.2.1 2.1.1.1.1"),
+    (OTHER, 34, 512, "1.2.2.1 2.1.1.1.1"),
 ];
+
+// How many places the other memory has, and what it holds: nothing, no events, the record's own events, and others.
+const OTHERS: [(usize, &str); 5] = [
+    (0, ""),
+    (511, ""),
+    (600, ""),
+    (600, "1.2.2.1 2.1.1.1.1 598x1.4.0.0"),
+    (513, "1.2.0.1 1.2.0.2 511x1.4.0.0"),
+];
+
+// Carries out a script beside this other memory, and asserts what all the places hold afterwards.
+fn replayed(
+    rt: &impl Abort,
+    heap: Global,
+    run: (&str, usize, usize, &str),
+    beside: (usize, &str),
+) -> Result<(), Fail> {
+    let (script, answers, places, after) = run;
+    let (mut changed, _) = memory(heap, places, "")?;
+    let (mut others, _) = memory(heap, beside.0, beside.1)?;
+    let mut answers = vec![in heap; Answer::Counted(999); answers]?;
+    let calls = calls(heap, script)?;
+    replay(
+        calls.as_slice(),
+        changed.as_mut_slice(),
+        others.as_mut_slice(),
+        answers.as_mut_slice(),
+    );
+    answered(rt, heap, script, answers.as_slice())?;
+    let (expected, _) = memory(heap, places, after)?;
+    assert_eq!(rt; changed, expected);
+    let (expected, _) = memory(heap, beside.0, beside.1)?;
+    assert_eq!(rt; others, expected);
+    Ok(())
+}
 
 #[test]
 fn each_script(rt: HostRuntime) -> Result<(), Fail> {
-    for (script, answers, places, after) in RUNS {
-        let (mut changed, _) = memory(rt.alloc(), places, "")?;
-        let mut answers = vec![in rt.alloc(); Answer::Counted(999); answers]?;
-        let calls = calls(rt.alloc(), script)?;
-        replay(
-            calls.as_slice(),
-            changed.as_mut_slice(),
-            answers.as_mut_slice(),
-        );
-        answered(&rt, rt.alloc(), script, answers.as_slice())?;
-        let (expected, _) = memory(rt.alloc(), places, after)?;
-        assert_eq!(rt; changed, expected);
+    for run in RUNS {
+        for beside in OTHERS {
+            replayed(&rt, rt.alloc(), run, beside)?;
+        }
     }
     Ok(())
+}
+
+#[test]
+fn a_short_part(rt: HostRuntime) {
+    for places in [0, 1, 511] {
+        assert!(rt; ShortPart::new(3, places).is_some());
+    }
+    for places in [512, 513, usize::MAX] {
+        assert!(rt; ShortPart::new(3, places).is_none());
+    }
 }

@@ -2,9 +2,10 @@
 use crate::words::{call, memory, said};
 use events::raw::RawEvent;
 use executions::execution::Execution;
-use recorder::calls::{Answer, Call};
 use recorder::opened::OpenRecord;
 use recorder::sealed::SealedRecord;
+use sessions::calls::{Answer, Call};
+use sessions::handed::Handed;
 use std::alloc::Global;
 use std::test::Fail;
 
@@ -68,10 +69,21 @@ pub(crate) fn outcome(
 ) -> Result<String, Fail> {
     let call = call(words)?;
     let places = match call {
-        Call::Note { handed, .. }
-        | Call::Link { handed, .. }
-        | Call::Retract { handed }
-        | Call::Seal { handed } => handed,
+        Call::Note {
+            handed: Handed::Own(places),
+            ..
+        }
+        | Call::Link {
+            handed: Handed::Own(places),
+            ..
+        }
+        | Call::Retract {
+            handed: Handed::Own(places),
+        }
+        | Call::Seal {
+            handed: Handed::Own(places),
+        } => places,
+        Call::Note { .. } | Call::Link { .. } | Call::Retract { .. } | Call::Seal { .. } => 0,
         Call::Reopen | Call::Count | Call::Event(_) => 0,
     };
     let (mut changed, count) = memory(heap, places, before)?;

@@ -1,6 +1,7 @@
 // Memory, calls and answers, written as words.
 use events::raw::RawEvent;
-use recorder::calls::{Answer, Call};
+use sessions::calls::{Answer, Call};
+use sessions::handed::{Handed, ShortPart};
 use std::alloc::{AllocError, Global};
 use std::test::Fail;
 
@@ -53,33 +54,50 @@ pub(crate) fn memory(
     Ok((memory, count))
 }
 
+// `512` is so many places of the record's own memory, `o3+511` so many of the other memory, from place 3 on.
+fn handed(word: &str) -> Result<Handed, Fail> {
+    let Some(part) = word.strip_prefix("o") else {
+        return Ok(Handed::Own(word.parse()?));
+    };
+    let (from, places) = part.split_once('+').unwrap_or((part, ""));
+    match ShortPart::new(from.parse()?, places.parse()?) {
+        Some(part) => Ok(Handed::Other(part)),
+        None => Err(Fail::new("no short part")),
+    }
+}
+
 // `note 512 1 2 0 64` is handed 512 places, as are `link 512 2 1`, `retract 512` and `seal 512`.
 pub(crate) fn call(text: &str) -> Result<Call, Fail> {
     let mut words = text.split_whitespace();
     let name = words.next().unwrap_or("");
-    let mut numbers = [0usize; 5];
+    let first = words.next().unwrap_or("0");
+    let mut numbers = [0usize; 4];
     for (number, word) in numbers.iter_mut().zip(words) {
         *number = word.parse()?;
     }
-    let [first, second, third, fourth, fifth] = numbers;
+    let [second, third, fourth, fifth] = numbers;
     match name {
         "note" => Ok(Call::Note {
-            handed: first,
+            handed: handed(first)?,
             thread: u8::try_from(second)?,
             kind: u8::try_from(third)?,
             mode: u8::try_from(fourth)?,
             location: u8::try_from(fifth)?,
         }),
         "link" => Ok(Call::Link {
-            handed: first,
+            handed: handed(first)?,
             event: second,
             writer: third,
         }),
-        "retract" => Ok(Call::Retract { handed: first }),
-        "seal" => Ok(Call::Seal { handed: first }),
+        "retract" => Ok(Call::Retract {
+            handed: handed(first)?,
+        }),
+        "seal" => Ok(Call::Seal {
+            handed: handed(first)?,
+        }),
         "reopen" => Ok(Call::Reopen),
         "count" => Ok(Call::Count),
-        "event" => Ok(Call::Event(first)),
+        "event" => Ok(Call::Event(first.parse()?)),
         _ => Err(Fail::new("no such call")),
     }
 }

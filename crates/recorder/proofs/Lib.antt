@@ -3,13 +3,3 @@ pub mod Runs
 pub mod Refusals
 pub mod Undamaged
 pub mod Complete
-pub mod Obeyed
-pub mod Parts
-pub mod Carried
-pub mod OpenRuns
-pub mod Keeping
-pub mod Changes
-pub mod Histories
-pub mod Seals
-pub mod Replies
-pub mod Standing

@@ -5,8 +5,3 @@ pub mod Edits
 pub mod Record
 pub mod Refusals
 pub mod Sealing
-pub mod Calls
-pub mod Reference
-pub mod Replay
-pub mod Carrying
-pub mod History

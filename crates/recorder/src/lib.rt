@@ -1,10 +1,8 @@
 //! A run recorded call by call in the caller's memory, and sealed into an execution.
 #![tactic(auto)]
 
-pub mod calls;
 pub mod fault;
 mod held;
 pub mod opened;
-pub mod replay;
 pub mod sealed;
 pub mod sealing;

@@ -1,4 +1,4 @@
-use Rattle.recorder.proofs.Keeping.{keeps}
+use Rattle.sessions.proofs.Keeping.{keeps}
 use Rattle.checker.proofs.Verdicts.{confirmed, related}
 use Rattle.checker.proofs.check.check.Goals as goal
 

@@ -1,0 +1,10 @@
+pub mod Obeyed
+pub mod Parts
+pub mod Carried
+pub mod OpenRuns
+pub mod Keeping
+pub mod Changes
+pub mod Histories
+pub mod Seals
+pub mod Replies
+pub mod Standing

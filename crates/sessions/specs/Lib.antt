@@ -1,0 +1,7 @@
+pub mod Handed
+pub mod Calls
+pub mod Reference
+pub mod Replay
+pub mod Carrying
+pub mod History
+pub mod Replayed
