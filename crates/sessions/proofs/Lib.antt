@@ -8,3 +8,5 @@ pub mod Histories
 pub mod Seals
 pub mod Replies
 pub mod Standing
+pub mod Recorded
+pub mod Written

@@ -17,11 +17,11 @@ pub open_none : OpenRun []
 open_none = record { few = omega arith; legal = λ i within. absurd (omega arith); fitted = λ i some. let w = writer_within [] i some in absurd (omega arith) }
 
 -- events that two runs have in common are read alike
-record Alike (es fs : List Event) (i : ℕ) : Type 0 where
-  kind : (at es i).kind ≡ (at fs i).kind
-  location : (at es i).location ≡ (at fs i).location
+pub record Alike (es fs : List Event) (i : ℕ) : Type 0 where
+  pub kind : (at es i).kind ≡ (at fs i).kind
+  pub location : (at es i).location ≡ (at fs i).location
 
-may_read_alike : (es fs : List Event) (w i : ℕ) → MayRead es w i → Within fs w → Within fs i → Alike es fs w → Alike es fs i → MayRead fs w i
+pub may_read_alike : (es fs : List Event) (w i : ℕ) → MayRead es w i → Within fs w → Within fs i → Alike es fs w → Alike es fs i → MayRead fs w i
 may_read_alike es fs w i r w_in i_in w_same i_same = (
   (i_in, ap is_load (sym i_same.kind) ∙ r.0.1),
   record { other = r.1.other; store = (w_in, ap is_store (sym w_same.kind) ∙ r.1.store.1); same = sym w_same.location ∙ r.1.same ∙ i_same.location },

@@ -5,3 +5,4 @@ pub mod Replay
 pub mod Carrying
 pub mod History
 pub mod Replayed
+pub mod Recording

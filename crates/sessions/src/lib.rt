@@ -3,4 +3,5 @@
 
 pub mod calls;
 pub mod handed;
+pub mod recording;
 pub mod replay;

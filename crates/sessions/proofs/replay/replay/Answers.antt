@@ -1,4 +1,4 @@
-use Rattle.std.proofs.Common.{length, min, refl, sym, ◌∙◌, arith}
+use Rattle.std.proofs.Common.{refl, sym, ◌∙◌, arith}
 use Rattle.std.proofs.lemmas.List.{get_or_default}
 use Rattle.sessions.specs.Replayed.{carried}
 use Rattle.sessions.proofs.Standing.{standing_none, standing_more, seals_further, sealed_on, sealed_to_end, Finished, finished_replayed, standing_finished}
