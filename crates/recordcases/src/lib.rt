@@ -7,6 +7,8 @@ mod damage;
 #[cfg(test)]
 mod faults;
 #[cfg(test)]
+mod recordings;
+#[cfg(test)]
 mod replaying;
 #[cfg(test)]
 mod rows;

@@ -173,22 +173,31 @@ fn replayed(
     Ok(())
 }
 
+fn beside_each(rt: &impl Abort, heap: Global, run: (&str, usize, usize, &str)) -> Result<(), Fail> {
+    for beside in OTHERS {
+        replayed(rt, heap, run, beside)?;
+    }
+    Ok(())
+}
+
 #[test]
 fn each_script(rt: HostRuntime) -> Result<(), Fail> {
     for run in RUNS {
-        for beside in OTHERS {
-            replayed(&rt, rt.alloc(), run, beside)?;
-        }
+        beside_each(&rt, rt.alloc(), run)?;
     }
     Ok(())
 }
 
 #[test]
 fn a_short_part(rt: HostRuntime) {
-    for places in [0, 1, 511] {
-        assert!(rt; ShortPart::new(3, places).is_some());
-    }
-    for places in [512, 513, usize::MAX] {
-        assert!(rt; ShortPart::new(3, places).is_none());
+    let parts = [
+        (0, true),
+        (1, true),
+        (511, true),
+        (512, false),
+        (usize::MAX, false),
+    ];
+    for (places, is_short) in parts {
+        assert_eq!(rt; ShortPart::new(3, places).is_some(), is_short);
     }
 }

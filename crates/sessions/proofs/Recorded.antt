@@ -1,26 +1,24 @@
 -- The reference model obeys the calls that record a run.
-use Rattle.std.proofs.Common.{◌≡◌, ◌≢◌, ℕ, zero, suc, ◌+◌, ◌-◌, ◌<◌, ◌≤◌, min, Bool, true, false, ◌||◌, List, [], ◌∷◌, ◌++◌, length, map, None, Ok, Err, refl, sym, ap, ◌∙◌, ◌⊎◌, inl, inr, add-one, arith}
+use Rattle.std.proofs.Common.{◌≡◌, ◌≢◌, ℕ, zero, suc, ◌+◌, ◌-◌, ◌<◌, ◌≤◌, min, Bool, true, false, List, [], ◌∷◌, ◌++◌, length, map, Ok, refl, sym, ap, ◌∙◌, ◌⊎◌, inl, inr, arith}
 use Rattle.std.proofs.lemmas.Bool.{cond_both, cases_lt, cases_eq}
 use Rattle.std.proofs.lemmas.Bool.Decides.{nat_tests}
 use Rattle.std.proofs.lemmas.List.{append-nil, append_assoc, length-append, length-map, length_push, length-set, ext_get_or}
 use Rattle.std.proofs.lemmas.List.FromFn.{length-range_with_len, length-map-range_with_len, get_or-map-range_with_len}
-use Rattle.std.proofs.lemmas.List.Sums.{length-filter}
-use Rattle.std.specs.Prelude.{◌==◌, nat_lt}
 use Rattle.std.specs.List.{filter, range_with_len}
 use Rattle.events.specs.Limits.{max_events}
 use Rattle.events.specs.Events.{kind_number, mode_number, is_load}
-use Rattle.events.specs.Raw.{checked, Legal, raw_of}
-use Rattle.events.specs.Run.{at, no_event, Within, Load, MayRead, FullRun, may_read}
+use Rattle.events.specs.Raw.{Legal, raw_of}
+use Rattle.events.specs.Run.{at, no_event, Within, Load, MayRead, FullRun}
 use Rattle.events.specs.declared.event.Event.{Event as EventOf}
 use Rattle.events.proofs.Fields.{legal_checked}
-use Rattle.recorder.specs.Edits.{Edited, unlinked, note_edit, link_edit, with_writer, seal_edit, lacks_writer, complete}
+use Rattle.recorder.specs.Edits.{Edited, unlinked, note_edit, link_edit, with_writer, seal_edit, complete}
 use Rattle.recorder.proofs.Lowest.{none_lowest}
 use Rattle.recorder.proofs.Refusals.{Decides-may_read, Decides-lacks_writer}
 use Rattle.sessions.specs.Calls.{Step, call_at, after, answer_after, answers_to}
 use Rattle.sessions.specs.Reference.{Reference, fresh, model_step, unless_short, event_answer}
 use Rattle.sessions.specs.Recording.{note_of, numbers, loads, notes, links, questions, recording, recorded, Records}
 use Rattle.sessions.specs.declared.calls.Call.{Call}
-use Rattle.sessions.specs.declared.calls.Call.TheVariants.{Note, Link, Seal, Count, Event}
+use Rattle.sessions.specs.declared.calls.Call.TheVariants.{Link, Seal, Count, Event}
 use Rattle.sessions.specs.declared.calls.Answer.{Answer}
 use Rattle.sessions.specs.declared.calls.Answer.TheVariants.{Noted, Done, Counted, Shown}
 use Rattle.sessions.specs.declared.handed.Handed.TheVariants.{Own}

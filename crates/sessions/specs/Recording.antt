@@ -1,5 +1,5 @@
 -- The calls that record a given run, and what comes of them.
-use Rattle.std.specs.Prelude.{◌≡◌, ℕ, ◌+◌, ◌<◌, ◌≤◌, List, ◌∷◌, [], ◌++◌, map, length, drop, true, Some, None, Option}
+use Rattle.std.specs.Prelude.{◌≡◌, ℕ, ◌+◌, ◌<◌, ◌≤◌, List, ◌∷◌, ◌++◌, map, length, drop, true, Some, None, Option}
 use Rattle.std.specs.List.{filter, range_with_len}
 use Rattle.events.specs.Limits.{max_events}
 use Rattle.events.specs.Events.{kind_number, mode_number, is_load}

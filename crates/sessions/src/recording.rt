@@ -1,8 +1,8 @@
 //! The calls that record a given run.
-ghost use Rattle.std.specs.Prelude.{◌≡◌, ◌+◌, ◌≤◌, length};
+ghost use Rattle.std.specs.Prelude.{◌≡◌, ◌+◌, ◌≤◌, true, is_some, length};
 ghost use Rattle.events.specs.Events.{kind_number, mode_number, is_load};
 ghost use Rattle.events.specs.Run.{at};
-ghost use Rattle.sessions.specs.Recording.{most_calls, note_of, loads, notes, links, questions, recording, Records, Heads, Writes};
+ghost use Rattle.sessions.specs.Recording.{note_of, loads, notes, links, questions, recording, Records, Heads, Writes};
 
 use crate::calls::Call;
 use crate::handed::Handed;
@@ -119,6 +119,7 @@ fn write_questions<E: Execution>(run: &E, calls: &mut [Call])
 /// is written; `MOST_CALLS` places are enough for every run.
 pub fn recording<E: Execution>(run: &E, calls: &mut [Call]) -> Option<usize>
     ensures writes { Writes (recording (E.Execution.events run.now)) calls.old calls.new result }
+    ensures enough { MOST_CALLS ≤ length calls.old → is_some result ≡ true }
     // Over memory that is long enough all these calls are obeyed, and the record shows this run.
     ensures records { Records (E.Execution.events run.now) }
 {

@@ -1,4 +1,4 @@
-use Rattle.std.proofs.Common.{◌≡◌, ◌+◌, ◌++◌, length, refl, sym, arith}
+use Rattle.std.proofs.Common.{◌≡◌, ◌+◌, ◌++◌, length, refl, arith}
 use Rattle.std.proofs.lemmas.List.{append_assoc, length-append, length-map}
 use Rattle.std.proofs.lemmas.List.FromFn.{length-map-range_with_len}
 use Rattle.events.specs.Limits.{max_events}
@@ -39,3 +39,7 @@ returns-clause-writes g c =
 
 pub returns-clause-records : goal.returns-clause-records
 returns-clause-records g c = records _ (g.met.E.Execution.full c.args.run.now)
+
+-- where there are as many places as any run needs, there is room
+pub returns-then-calls-linked-clause-enough : goal.returns-then-calls-linked-clause-enough
+returns-then-calls-linked-clause-enough g c room = let (_, loads) = recording_size (g.E.Execution.events c.args.run.now) in absurd (omega (arith, (g.met.E.Execution.full c.args.run.now).few))

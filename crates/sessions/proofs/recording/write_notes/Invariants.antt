@@ -1,4 +1,4 @@
-use Rattle.std.proofs.Common.{◌-◌, ◌≤◌, map, length}
+use Rattle.std.proofs.Common.{◌-◌, map}
 use Rattle.std.specs.List.{range_with_len}
 use Rattle.events.specs.Run.{at}
 use Rattle.sessions.specs.Recording.{note_of, Heads}
