@@ -1,4 +1,5 @@
 pub mod Words
+pub mod Lines
 pub mod Turned
 pub mod Lowest
 pub mod Parts

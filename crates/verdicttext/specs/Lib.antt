@@ -1,3 +1,4 @@
 pub mod Groups
+pub mod Store
 pub mod Text
 pub mod Turns

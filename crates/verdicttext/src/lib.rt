@@ -3,6 +3,7 @@
 
 mod cycle;
 pub mod line;
-pub mod model;
+mod model;
 mod order;
 mod violation;
+mod word;

@@ -5,23 +5,76 @@ ghost use Rattle.verdicts.specs.declared.step.Step.{Step as StepOf};
 ghost use Rattle.verdicttext.specs.Groups.{groups, PartOrder};
 ghost use Rattle.verdicttext.specs.Text.{line_text};
 ghost use Rattle.verdicttext.specs.Turns.{LowestFirst};
+ghost use Rattle.writing.specs.Pushes.{Begins, Pushes};
 
-use crate::model::ModelWord;
-use crate::order::OrderWords;
-use crate::violation::ViolationWords;
+use crate::model::model_word;
+use crate::order::begin_order;
+use crate::violation::begin_violation;
 use executions::execution::Execution;
 use executions::fault::CheckerFault;
 use models::name::ModelName;
-use std::fmt;
 use std::marker::Model;
+use std::{fmt, str};
 use verdicts::step::Step;
 use verdicts::verdict::Verdict;
+use writing::pen::{Full, Pen};
+use writing::refused::push_refused;
 
 // The first so many, or all if there are fewer.
 fn first<T>(items: &[T], count: usize) -> &[T]
     ensures { result.now ≡ take count items.now }
 {
     items.get(..count).unwrap_or(items)
+}
+
+/// No line of a judge's answer is longer: at most eight characters for each of 512 events, and 64 before them.
+pub const LONGEST_LINE: usize = 8 * 512 + 64;
+
+fn begin_line<E: Execution, const N: usize>(
+    pen: &mut Pen<N>,
+    model: ModelName,
+    run: &E,
+    answer: Result<Verdict, CheckerFault>,
+    order: &[u16],
+    steps: &[Step],
+) -> Result<(), Full>
+    ensures { Begins N (line_text model (E.Execution.events run.now) answer order.now steps.now) pen.old pen.new result }
+{
+    pen.push_all(model_word(model))?;
+    match answer {
+        Ok(Verdict::Consistent(count)) => {
+            pen.push_all(b" consistent")?;
+            begin_order(pen, run, first(order, count))
+        }
+        Ok(Verdict::Inconsistent(violation)) => {
+            pen.push_all(b" inconsistent ")?;
+            begin_violation(pen, violation, first(steps, violation.step_count()))
+        }
+        Err(fault) => {
+            pen.push(b' ')?;
+            push_refused(pen, &fault)
+        }
+    }
+}
+
+/// Writes the answer of judging a run under a model, over the two buffers as judging left them, as a line without its end.
+pub fn push_line<E: Execution, const N: usize>(
+    pen: &mut Pen<N>,
+    model: ModelName,
+    run: &E,
+    answer: Result<Verdict, CheckerFault>,
+    order: &[u16],
+    steps: &[Step],
+) -> Result<(), Full>
+    ensures text { Pushes N (line_text model (E.Execution.events run.now) answer order.now steps.now) pen.old pen.new result }
+
+    // What groups and where turns begin, by their laws.
+    ensures groups { (o : List ℕ) → PartOrder (E.Execution.events run.now) o (groups (E.Execution.events run.now) o) }
+    ensures turns { (ss : List StepOf) → LowestFirst ss }
+{
+    let count = pen.text().len();
+    let begun = begin_line(pen, model, run, answer, order, steps);
+    pen.all_or_nothing(count, begun)
 }
 
 /// The answer of judging a run under a model, as a line without its end. A contract sees the characters.
@@ -68,26 +121,26 @@ impl<'a, E: Execution> VerdictLine<'a, E> {
     }
 }
 
+// As `push_line` writes it.
 impl<'a, E: Execution> fmt::Display for VerdictLine<'a, E> {
     ghost output = { λ t. Some t };
 
     fn fmt<W: fmt::Write>(&self, f: &mut fmt::Formatter<W>) -> fmt::Result {
-        let model = ModelWord(self.model);
-        match self.answer {
-            Ok(Verdict::Consistent(count)) => {
-                let stores = first(self.order, count);
-                let run = self.run;
-                write!(f, "{model} consistent{}", OrderWords { run, stores })
-            }
-            Ok(Verdict::Inconsistent(violation)) => {
-                let steps = first(self.steps, violation.step_count());
-                write!(
-                    f,
-                    "{model} inconsistent {}",
-                    ViolationWords { violation, steps }
-                )
-            }
-            Err(fault) => write!(f, "{model} {fault}"),
+        let mut pen: Pen<LONGEST_LINE> = Pen::new();
+        let pushed = push_line(
+            &mut pen,
+            self.model,
+            self.run,
+            self.answer,
+            self.order,
+            self.steps,
+        );
+        if pushed.is_err() {
+            return Err(fmt::Error);
+        }
+        match str::from_utf8(pen.text()) {
+            Ok(text) => f.write_str(text),
+            Err(_) => Err(fmt::Error),
         }
     }
 }
@@ -204,6 +257,22 @@ mod tests {
         ] {
             let answer = Ok(Verdict::Inconsistent(violation));
             has_text(&rt, rt.alloc(), ModelName::Ra, answer, expected)?;
+        }
+        Ok(())
+    }
+
+    #[test]
+    fn a_line_that_does_not_fit(rt: HostRuntime) -> Result<(), Fail> {
+        let run = three_stores();
+        let mut pen: Pen<30> = Pen::new();
+        for (answer, fits) in [
+            (Ok(Verdict::Consistent(2)), true),
+            (Ok(Verdict::Consistent(0)), false),
+            (Err(CheckerFault::HasUpdates(2)), false),
+        ] {
+            let pushed = push_line(&mut pen, ModelName::Ra, &run, answer, &[3, 1, 2], &[]);
+            assert_eq!(rt; pushed.is_ok(), fits);
+            assert_eq!(rt; pen.text(), b"RA consistent 1:3<1".as_slice());
         }
         Ok(())
     }
