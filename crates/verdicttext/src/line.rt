@@ -30,6 +30,7 @@ fn first<T>(items: &[T], count: usize) -> &[T]
 /// No line of a judge's answer is longer: at most eight characters for each of 512 events, and 64 before them.
 pub const LONGEST_LINE: usize = 8 * 512 + 64;
 
+// Where a piece does not fit, those before it stay.
 fn begin_line<E: Execution, const N: usize>(
     pen: &mut Pen<N>,
     model: ModelName,
@@ -121,7 +122,7 @@ impl<'a, E: Execution> VerdictLine<'a, E> {
     }
 }
 
-// As `push_line` writes it.
+/// As `push_line` writes it. A line longer than `LONGEST_LINE` is an error.
 impl<'a, E: Execution> fmt::Display for VerdictLine<'a, E> {
     ghost output = { λ t. Some t };
 

@@ -53,6 +53,7 @@ impl<const N: usize> Pen<N> {
             return Err(Full);
         }
         let end = self.count + text.len();
+        // Of an array of N places no part is lent, but of a slice of it.
         let bytes = &mut self.bytes[..];
         bytes[self.count..end].copy_from_slice(text);
         self.count = end;
@@ -73,7 +74,8 @@ impl<const N: usize> Pen<N> {
         self.push_all(Buffer::new().format(n).as_bytes())
     }
 
-    /// Hands on what a call answered, and where it was refused takes back all but the first so many characters.
+    /// Hands on what a call answered, and where it was refused takes back all but the first so many characters. So one that
+    /// writes several pieces leaves none of them where one does not fit.
     pub fn all_or_nothing(&mut self, count: usize, answer: Result<(), Full>) -> Result<(), Full>
         ensures answer { result ≡ answer }
         ensures keeps { MatchResult answer (λ _. self.new ≡ self.old) (λ _. self.new ≡ take count self.old) }

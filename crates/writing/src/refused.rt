@@ -5,6 +5,7 @@ ghost use Rattle.writing.specs.Pushes.{Begins, Pushes};
 use crate::pen::{Full, Pen};
 use events::refusal::Refusal;
 
+// Where a piece does not fit, those before it stay.
 fn begin_refused<const N: usize>(pen: &mut Pen<N>, number: u8, place: usize) -> Result<(), Full>
     ensures { Begins N (refused_text number place) pen.old pen.new result }
 {
