@@ -1,15 +1,13 @@
 -- What is so of orders is so of the verdicts that a judge gives.
-use Rattle.std.proofs.Common.{◌≡◌, ◌↔◌, ℕ, ◌≤◌, List, length, take, Ok, Err, Result, refl, sym, subst, ap, ◌∙◌, arith}
+use Rattle.std.proofs.Common.{◌≡◌, ◌↔◌, ℕ, ◌≤◌, List, length, take, Ok, sym, subst, ap, ◌∙◌, arith}
 use Rattle.std.proofs.lemmas.List.{length-take-le}
 use Rattle.events.specs.Relations.{Rel}
 use Rattle.events.specs.Run.{FullRun}
 use Rattle.events.specs.declared.event.Event.{Event}
-use Rattle.executions.specs.declared.fault.CheckerFault.{CheckerFault}
 use Rattle.models.specs.Models.{Hb, rc20_rule, reads_from_rule, empty_rule, rule_of, scope_of}
 use Rattle.models.specs.Orders.{Mo}
 use Rattle.models.specs.declared.name.ModelName.{ModelName}
 use Rattle.models.specs.declared.name.ModelName.TheVariants.{Rc20, Ra, Sra, Wra, Relaxed}
-use Rattle.models.specs.declared.scope.Scope.{Scope}
 use Rattle.models.specs.declared.scope.Scope.TheVariants.{Location}
 use Rattle.models.proofs.Less.{holds_less}
 use Rattle.verdicts.specs.Numbers.{IsConsistent}
@@ -25,10 +23,6 @@ use Rattle.judge.specs.Judges.{Allowed, Judges}
 use Rattle.judge.proofs.Verdicts.{decided}
 use Rattle.views.specs.Laws.{SameButModes}
 use Rattle.views.specs.Views.{strengthened, relaxed}
-use Rattle.confirm.specs.Confirm.{Confirms}
-use Rattle.confirm.specs.declared.finding.Finding.{Finding}
-use Rattle.confirm.specs.declared.finding.Finding.TheVariants.{Passes, Fails}
-use Rattle.checker.specs.RightVerdicts.{Confirmed}
 use Rattle.checker.specs.Related.{AllowedBy, Judgement, JudgementBy, Implies, SameVerdict, GivesAs, Related}
 use Rattle.checker.proofs.Weaker.{sra_ra, ra_wra, ra_rc20, rc20_relaxed}
 use Rattle.checker.proofs.Alike.{alike_turned, order_alike, holds_alike, violates_alike, laid_alike}
@@ -95,19 +89,6 @@ module _ (fs es : List Event) (s : SameButModes fs es) (from to : Rel) (there : 
     λ o. (laid_there fs es s from to there back o, laid_there es fs t to from back there o),
     same_verdicts,
   )
-
--- what confirm says of the order of a verdict, and of any other
-pub confirmed : (scope : Scope) (sw : Rel) (es : List Event) (order order_now : List ℕ) (steps steps_now : List Step) (r : Result Verdict CheckerFault) →
-    Judges scope sw es order order_now steps steps_now r → Confirmed scope sw es order_now r
-confirmed scope sw es order order_now steps steps_now (Ok (Consistent k)) (admits, (fits, laid, is, all, rest, kept, none)) = passes
-  where
-    passes : (f : Result Finding CheckerFault) → Confirms scope sw es (take k order_now) f → f ≡ Ok Passes
-    passes (Ok Passes) c = refl
-    passes (Ok (Fails x)) (_, (fails, _)) = absurd (fails (all x))
-    passes (Err fault) (none, _) = absurd (none is)
-confirmed scope sw es order order_now steps steps_now (Ok (Inconsistent v)) (admits, (fits, broken, first, fails, rest, kept)) = λ o f c e.
-    let (is, all) = subst (λ x. Confirms scope sw es o x) e c in fails (o, is, all)
-confirmed scope sw es order order_now steps steps_now (Err fault) refused = tt
 
 pub related : (es : List Event) → FullRun es → Related es
 related es full =

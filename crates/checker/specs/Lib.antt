@@ -1,2 +1,2 @@
 pub mod Related
-pub mod RightVerdicts
+pub mod Promise

@@ -1,4 +1,6 @@
-//! Judging a run under a model, with all that the library promises of verdicts in one contract.
+//! All that the library promises of records, verdicts, orders, models and views, in the contract of one call.
 #![tactic(auto)]
 
 pub mod check;
+pub mod checked;
+pub mod judged;

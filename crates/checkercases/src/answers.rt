@@ -1,13 +1,16 @@
 // What checking answers under each model, and the line that is printed of it.
 use crate::buffers::Buffers;
 use checker::check::check;
+use checker::checked::Checked;
+use confirm::finding::Finding;
 use executions::execution::Execution;
 use executions::fault::CheckerFault;
-use models::model::{Ra, Rc20, Relaxed, Sra, Wra};
+use models::model::{Model, Ra, Rc20, Relaxed, Sra, Wra};
 use models::name::ModelName;
 use models::rc20::Rc20Rule;
 use models::rules::{EmptyRule, ReadsFromRule};
 use std::alloc::{AllocError, Global};
+use verdicts::step::Step;
 use verdicts::verdict::Verdict;
 use verdicts::violation::Violation;
 use verdicttext::line::VerdictLine;
@@ -22,16 +25,41 @@ pub(crate) const MODELS: [ModelName; 5] = [
 
 pub(crate) type Answer = Result<Verdict, CheckerFault>;
 
-// Checks the run under the model of this name.
-pub(crate) fn checked<E: Execution>(model: ModelName, run: &E, buffers: &mut Buffers) -> Answer {
+// Checks the run under this model, with no calls on a record.
+fn checked_under<M: Model, E: Execution>(
+    rule: &M::Synchronises,
+    run: &E,
+    buffers: &mut Buffers,
+    candidate: &[u16],
+) -> Checked {
     let order = buffers.order.as_mut_slice();
     let steps = buffers.steps.as_mut_slice();
+    check::<M, E>(
+        &[],
+        &mut [],
+        &mut [],
+        &mut [],
+        rule,
+        run,
+        order,
+        steps,
+        candidate,
+    )
+}
+
+// And under the model of this name.
+pub(crate) fn checked<E: Execution>(
+    model: ModelName,
+    run: &E,
+    buffers: &mut Buffers,
+    candidate: &[u16],
+) -> Checked {
     match model {
-        ModelName::Rc20 => check::<Rc20, E>(&Rc20Rule, run, order, steps),
-        ModelName::Ra => check::<Ra, E>(&ReadsFromRule, run, order, steps),
-        ModelName::Sra => check::<Sra, E>(&ReadsFromRule, run, order, steps),
-        ModelName::Wra => check::<Wra, E>(&ReadsFromRule, run, order, steps),
-        ModelName::Relaxed => check::<Relaxed, E>(&EmptyRule, run, order, steps),
+        ModelName::Rc20 => checked_under::<Rc20, E>(&Rc20Rule, run, buffers, candidate),
+        ModelName::Ra => checked_under::<Ra, E>(&ReadsFromRule, run, buffers, candidate),
+        ModelName::Sra => checked_under::<Sra, E>(&ReadsFromRule, run, buffers, candidate),
+        ModelName::Wra => checked_under::<Wra, E>(&ReadsFromRule, run, buffers, candidate),
+        ModelName::Relaxed => checked_under::<Relaxed, E>(&EmptyRule, run, buffers, candidate),
     }
 }
 
@@ -52,10 +80,11 @@ fn letter(answer: Answer) -> &'static str {
     }
 }
 
-// A letter, and the line that is printed.
+// A letter, whether an order was confirmed, and the line that is printed.
 #[derive(Drop)]
 pub(crate) struct Report {
     pub(crate) letter: &'static str,
+    pub(crate) is_confirmed: bool,
     pub(crate) line: String,
 }
 
@@ -75,6 +104,18 @@ impl Report {
     }
 }
 
+// The answer over these buffers as a line.
+pub(crate) fn line<E: Execution>(
+    heap: Global,
+    model: ModelName,
+    run: &E,
+    answer: Answer,
+    order: &[u16],
+    steps: &[Step],
+) -> Result<String, AllocError> {
+    VerdictLine::new(model, run, answer, order, steps).to_string(heap)
+}
+
 // The run checked under the model.
 pub(crate) fn told<E: Execution>(
     heap: Global,
@@ -82,11 +123,13 @@ pub(crate) fn told<E: Execution>(
     run: &E,
 ) -> Result<Report, AllocError> {
     let mut buffers = Buffers::of(heap, 512, 512)?;
-    let answer = checked(model, run, &mut buffers);
+    let checked = checked(model, run, &mut buffers, &[]);
+    let answer = checked.verdict;
     let (order, steps) = (buffers.order.as_slice(), buffers.steps.as_slice());
     Ok(Report {
         letter: letter(answer),
-        line: VerdictLine::new(model, run, answer, order, steps).to_string(heap)?,
+        is_confirmed: checked.confirmed == Some(Ok(Finding::Passes)),
+        line: line(heap, model, run, answer, order, steps)?,
     })
 }
 

@@ -74,7 +74,7 @@ rruwr | 2.W.rlx.1 1.F.rlx 3.R.acq.1.6 2.U.rel.1.5 1.W.rel.1 1.U.acqrel.1.1 1.R.r
 ttutt | 1.U.rlx.2.6 1.R.rlx.2.7 1.U.rlx.2.6 2.F.rlx 2.F.rlx 3.W.rlx.2 3.W.rlx.2
 ";
 
-// The letters are those that are expected, and what is consistent under a stronger model is so under a weaker one.
+// The letters are those that are expected, the order of just the consistent runs is confirmed, and what is consistent under a stronger model is so under a weaker one.
 fn check_verdicts(rt: &impl Abort, heap: Global, run: &Log, row: &str) -> Result<(), AllocError> {
     let mut letters = String::new(heap);
     let mut are_consistent = [false; 5];
@@ -82,6 +82,7 @@ fn check_verdicts(rt: &impl Abort, heap: Global, run: &Log, row: &str) -> Result
         let report = told(heap, model, run)?;
         letters.push_str(report.letter)?;
         *is_consistent = report.is_consistent();
+        assert!(rt; report.is_confirmed == *is_consistent, "{row}: {letters}");
     }
     assert!(rt; row.starts_with(letters.as_str()), "{row}: {letters}");
     let [rc20, ra, sra, wra, relaxed] = are_consistent;

@@ -16,6 +16,10 @@ mod longest;
 #[cfg(test)]
 mod numbers;
 #[cfg(test)]
+mod parts;
+#[cfg(test)]
+mod reported;
+#[cfg(test)]
 mod viewed;
 #[cfg(test)]
 mod words;

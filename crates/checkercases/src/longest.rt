@@ -1,6 +1,8 @@
 // A run as long as it may be: each thread writes at each of 32 locations, and then reads what the thread before it wrote there.
-use crate::answers::{MODELS, told};
+use crate::answers::{MODELS, line};
+use crate::buffers::Buffers;
 use crate::words::{bytes, opened};
+use judge::by_number::judge;
 use models::name::ModelName;
 use std::alloc::{AllocError, Global};
 use std::test::Fail;
@@ -53,20 +55,25 @@ fn order(heap: Global) -> Result<String, AllocError> {
     Ok(words)
 }
 
+// By the judge alone: a check judges such a run five times, which takes its time where a test is tried and not built.
 #[test]
 fn each_model(rt: HostRuntime) -> Result<(), Fail> {
     let words = words(rt.alloc())?;
     let bytes = bytes(rt.alloc(), words.as_str())?;
     let run = opened(bytes.as_slice())?;
-    let order = order(rt.alloc())?;
+    let laid = order(rt.alloc())?;
     for model in MODELS {
-        let report = told(rt.alloc(), model, &run)?;
+        let mut buffers = Buffers::of(rt.alloc(), 512, 512)?;
+        let order = buffers.order.as_mut_slice();
+        let answer = judge(model.number(), &run, order, buffers.steps.as_mut_slice());
+        let (order, steps) = (buffers.order.as_slice(), buffers.steps.as_slice());
+        let line = line(rt.alloc(), model, &run, answer, order, steps)?;
         let is_weak = model == ModelName::Wra;
-        let laid = if is_weak { "" } else { order.as_str() };
+        let expected = if is_weak { "" } else { laid.as_str() };
+        let (_, words) = line.as_str().split_once(' ').unwrap_or(("", ""));
         assert!(rt;
-            report.words().strip_prefix("consistent") == Some(laid),
-            "{}",
-            report.line
+            words.strip_prefix("consistent") == Some(expected),
+            "{line}"
         );
     }
     Ok(())

@@ -1,0 +1,11 @@
+pub mod Room
+pub mod Digits
+pub mod Inside
+pub mod OrderRoom
+pub mod CycleRoom
+pub mod ViolationRoom
+pub mod Longest
+pub mod Lines
+pub mod AllLines
+pub mod RefusalRoom
+pub mod Printed
