@@ -2,15 +2,22 @@
 ghost use Rattle.std.specs.Prelude.{◌≡◌};
 ghost use Rattle.confirm.specs.Confirm.{finding_number};
 
+use events::plain::Plain;
 use models::axiom::Axiom;
 
 /// What confirming an order finds.
-#[derive(Clone, Copy, Debug, PartialEq, Eq)]
+#[derive(Clone, Copy, PartialEq, Eq)]
 pub enum Finding {
     /// Every axiom holds.
     Passes,
     /// The first axiom, by number, that does not hold.
     Fails(Axiom),
+}
+
+impl Plain for Finding {
+    ghost use Rattle.std.proofs.Common.{rules};
+
+    ghost plain = { record { clones = λ x y same. same; never_fails = λ x. tt; equals = Prim.search rules } };
 }
 
 impl Finding {

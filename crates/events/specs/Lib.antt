@@ -1,4 +1,5 @@
 pub mod Limits
+pub mod Plain
 pub mod Events
 pub mod Raw
 pub mod Run

@@ -35,6 +35,6 @@ abbrev pub event_text : Event → List ℕ
 event_text e =
     spaced ((codes "T" ++ decimal e.thread) ∷ (kind_letter e.kind ∷ (mode_word e.mode ∷ place_words (is_access e.kind) e.location (writer_of e))))
 
--- a refusal with this number and this place
-abbrev pub refused_text : ℕ → ℕ → List ℕ
-refused_text number place = spaced (codes "refused" ∷ (decimal number ∷ (decimal place ∷ [])))
+-- a refusal, by its number and its place
+abbrev pub refused_text : ℕ × ℕ → List ℕ
+refused_text (number, place) = spaced (codes "refused" ∷ (decimal number ∷ (decimal place ∷ [])))

@@ -2,8 +2,10 @@
 ghost use Rattle.std.specs.Prelude.{◌≡◌};
 ghost use Rattle.events.specs.Events.{is_load, is_store, is_access, acquires, releases, allowed, writer_of, fitting};
 
+use crate::plain::Plain;
+
 /// What an event does. An update is a successful read-modify-write; a failed one is a read.
-#[derive(Clone, Copy, Debug, PartialEq, Eq, Hash)]
+#[derive(Clone, Copy, PartialEq, Eq, Hash)]
 pub enum Kind {
     Read,
     Write,
@@ -11,8 +13,14 @@ pub enum Kind {
     Fence,
 }
 
+impl Plain for Kind {
+    ghost use Rattle.std.proofs.Common.{rules};
+
+    ghost plain = { record { clones = λ x y same. same; never_fails = λ x. tt; equals = Prim.search rules } };
+}
+
 /// How an event is ordered with others.
-#[derive(Clone, Copy, Debug, PartialEq, Eq, Hash)]
+#[derive(Clone, Copy, PartialEq, Eq, Hash)]
 pub enum Mode {
     Relaxed,
     Acquire,
@@ -20,17 +28,29 @@ pub enum Mode {
     AcquireRelease,
 }
 
+impl Plain for Mode {
+    ghost use Rattle.std.proofs.Common.{rules};
+
+    ghost plain = { record { clones = λ x y same. same; never_fails = λ x. tt; equals = Prim.search rules } };
+}
+
 /// The writer is the number of the store that a load reads from, and 0 where there is none.
 // Writer and location stay the numbers of a run's definition, with 0 for none; `reads_from` gives the writer as an `Option`.
 // One struct `Event<K = Kind, M = Mode>` would serve `RawEvent` too, but be no plainer: each impl, derive and definition
 // over events would have two parameters more.
-#[derive(Clone, Copy, Debug, PartialEq, Eq, Hash)]
+#[derive(Clone, Copy, PartialEq, Eq, Hash)]
 pub struct Event {
     pub thread: u8,
     pub kind: Kind,
     pub mode: Mode,
     pub location: u8,
     pub writer: u16,
+}
+
+impl Plain for Event {
+    ghost use Rattle.std.proofs.Common.{arith};
+
+    ghost plain = { record { clones = λ x y same. same; never_fails = λ x. tt; equals = λ x y. Prim.grind arith } };
 }
 
 // A method for each word that the memory models use: `kind.is_among(&LOADS)` in place of each would be no plainer.

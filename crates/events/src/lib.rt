@@ -3,6 +3,7 @@
 
 pub mod event;
 pub mod limits;
+pub mod plain;
 pub mod raw;
 pub mod refusal;
 pub mod text;

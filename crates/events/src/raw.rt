@@ -4,9 +4,10 @@ ghost use Rattle.events.specs.Raw.{fault_number, in_locations, KindOf, ModeOf, C
 
 use crate::event::{Event, Kind, Mode};
 use crate::limits::{MAX_LOCATIONS, MAX_THREADS};
+use crate::plain::Plain;
 
 /// An event as logs and records hold it: any numbers at all.
-#[derive(Clone, Copy, Debug, PartialEq, Eq, Hash)]
+#[derive(Clone, Copy, PartialEq, Eq, Hash)]
 pub struct RawEvent {
     pub thread: u8,
     pub kind: u8,
@@ -15,13 +16,25 @@ pub struct RawEvent {
     pub writer: u16,
 }
 
+impl Plain for RawEvent {
+    ghost use Rattle.std.proofs.Common.{rules};
+
+    ghost plain = { record { clones = λ x y same. same; never_fails = λ x. tt; equals = Prim.search rules } };
+}
+
 /// The field that rules the numbers out. Each has a number of its own, though a log does not tell them apart.
-#[derive(Clone, Copy, Debug, PartialEq, Eq, Hash)]
+#[derive(Clone, Copy, PartialEq, Eq, Hash)]
 pub enum FieldFault {
     Thread,
     Kind,
     Mode,
     Location,
+}
+
+impl Plain for FieldFault {
+    ghost use Rattle.std.proofs.Common.{rules};
+
+    ghost plain = { record { clones = λ x y same. same; never_fails = λ x. tt; equals = Prim.search rules } };
 }
 
 impl FieldFault {

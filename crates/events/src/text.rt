@@ -74,15 +74,14 @@ impl fmt::Display for Event {
 }
 
 /// Any refusal as text: its number and its place.
-#[derive(Clone, Copy, Debug)]
+#[derive(Drop)]
 pub struct Refused<R>(pub R);
 
 impl<R: Refusal> fmt::Display for Refused<R> {
-    ghost output = { λ r. Some (refused_text (R.number r.0) (R.place r.0)) };
+    ghost output = { λ r. Some (refused_text (R.code r.0)) };
 
     fn fmt<W: fmt::Write>(&self, f: &mut fmt::Formatter<W>) -> fmt::Result {
-        let number = self.0.number();
-        let place = self.0.place();
+        let (number, place) = self.0.code();
         write!(f, "refused {number} {place}")
     }
 }

@@ -2,14 +2,15 @@
 ghost use Rattle.events.specs.declared.refusal.Layer.TheVariants.{Checker};
 ghost use Rattle.std.specs.Prelude.{Some};
 ghost use Rattle.events.specs.Text.{refused_text};
-ghost use Rattle.executions.specs.Faults.{fault_number, fault_place};
+ghost use Rattle.executions.specs.Faults.{fault_code};
 
+use events::plain::Plain;
 use events::refusal::{Layer, Refusal};
 use events::text::Refused;
 use std::error::Error;
 use std::fmt;
 
-#[derive(Clone, Copy, Debug, PartialEq, Eq, Hash)]
+#[derive(Clone, Copy, PartialEq, Eq, Hash)]
 pub enum CheckerFault {
     /// An event number that is 0 or above the count: that number.
     NoEvent(usize),
@@ -23,27 +24,24 @@ pub enum CheckerFault {
     HasUpdates(usize),
 }
 
-impl Refusal for CheckerFault {
-    ghost number = { fault_number };
+impl Plain for CheckerFault {
+    ghost use Rattle.std.proofs.Common.{rules};
 
-    ghost place = { fault_place };
+    ghost plain = { record { clones = λ x y same. same; never_fails = λ x. tt; equals = Prim.search rules } };
+}
+
+impl Refusal for CheckerFault {
+    ghost code = { fault_code };
 
     ghost layer = { Checker };
 
-    fn number(&self) -> u8 {
+    fn code(&self) -> (u8, usize) {
         match self {
-            CheckerFault::NoEvent(_) => 5,
-            CheckerFault::NoModel => 8,
-            CheckerFault::ShortBuffer => 9,
-            CheckerFault::NotAnOrder => 12,
-            CheckerFault::HasUpdates(_) => 24,
-        }
-    }
-
-    fn place(&self) -> usize {
-        match self {
-            CheckerFault::NoEvent(i) | CheckerFault::HasUpdates(i) => *i,
-            CheckerFault::NoModel | CheckerFault::ShortBuffer | CheckerFault::NotAnOrder => 0,
+            CheckerFault::NoEvent(i) => (5, *i),
+            CheckerFault::NoModel => (8, 0),
+            CheckerFault::ShortBuffer => (9, 0),
+            CheckerFault::NotAnOrder => (12, 0),
+            CheckerFault::HasUpdates(i) => (24, *i),
         }
     }
 
@@ -53,10 +51,19 @@ impl Refusal for CheckerFault {
 }
 
 impl fmt::Display for CheckerFault {
-    ghost output = { λ f. Some (refused_text (fault_number f) (fault_place f)) };
+    ghost output = { λ f. Some (refused_text (fault_code f)) };
 
     fn fmt<W: fmt::Write>(&self, f: &mut fmt::Formatter<W>) -> fmt::Result {
         write!(f, "{}", Refused(*self))
+    }
+}
+
+// `Error` wants one. It shows what `Display` does.
+impl fmt::Debug for CheckerFault {
+    ghost debug_output = { λ f. Some (refused_text (fault_code f)) };
+
+    fn fmt<W: fmt::Write>(&self, f: &mut fmt::Formatter<W>) -> fmt::Result {
+        fmt::Display::fmt(self, f)
     }
 }
 

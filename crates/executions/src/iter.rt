@@ -1,6 +1,7 @@
 //! The events of an execution, one after another.
-ghost use Rattle.std.specs.Prelude.{◌≡◌, ◌-◌, ◌≤◌, List, drop};
-ghost use Rattle.std.specs.Iterator.{YieldsFirst, item_count};
+ghost use Rattle.std.specs.Prelude.{◌≡◌, ◌-◌, ◌≤◌, List, drop, length, IfSome, Some};
+ghost use Rattle.std.specs.Iterator.{YieldsFirst, UpTo, item_count};
+ghost use Rattle.std.specs.Iterator.SizeHint.{IsWithinCount};
 ghost use Rattle.events.specs.declared.event.Event.{Event as EventOf};
 
 use crate::execution::Execution;
@@ -44,5 +45,15 @@ impl<'a, E: Execution> Iterator for Iter<'a, E> {
         let event = self.run.event(self.next).ok()?;
         self.next += 1;
         Some(event)
+    }
+
+    // The first two clauses are those of the trait.
+    fn size_hint(&self) -> (usize, Option<usize>)
+        ensures lower { IsWithinCount result.0 (item_count (λ rest. rest) self.now) }
+        ensures upper { IfSome result.1 (UpTo (item_count (λ rest. rest) self.now)) }
+        ensures exact { result ≡ (length self.now, Some (length self.now)) }
+    {
+        let left = self.run.count().saturating_sub(self.next - 1);
+        (left, Some(left))
     }
 }

@@ -23,7 +23,7 @@ const FAULTS: [(CheckerFault, u8, usize); 3] = [
 fn each_fault(rt: HostRuntime) -> Result<(), Fail> {
     for (fault, number, place) in FAULTS {
         let told = (fault.number(), fault.place(), fault.layer());
-        assert_eq!(rt; told, (number, place, Layer::Checker));
+        assert!(rt; told == (number, place, Layer::Checker));
         let text = format!(in rt.alloc(); "refused {number} {place}")?;
         assert_eq!(rt; fault.to_string(rt.alloc())?, text);
     }

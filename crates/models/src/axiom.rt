@@ -2,13 +2,21 @@
 ghost use Rattle.std.specs.Prelude.{◌≡◌};
 ghost use Rattle.models.specs.Numbers.{axiom_number};
 
+use events::plain::Plain;
+
 /// What a model asks of an order.
-#[derive(Clone, Copy, Debug, PartialEq, Eq, Hash)]
+#[derive(Clone, Copy, PartialEq, Eq, Hash)]
 pub enum Axiom {
     Causality,
     WriteCoherence,
     ReadCoherence,
     Atomicity,
+}
+
+impl Plain for Axiom {
+    ghost use Rattle.std.proofs.Common.{rules};
+
+    ghost plain = { record { clones = λ x y same. same; never_fails = λ x. tt; equals = Prim.search rules } };
 }
 
 impl Axiom {

@@ -3,14 +3,22 @@ ghost use Rattle.std.specs.Prelude.{◌≡◌, ◌≢◌, MatchOption};
 ghost use Rattle.models.specs.declared.name.ModelName.{ModelName as Named};
 ghost use Rattle.models.specs.Numbers.{model_number, model_of};
 
+use events::plain::Plain;
+
 /// The five models.
-#[derive(Clone, Copy, Debug, PartialEq, Eq, Hash)]
+#[derive(Clone, Copy, PartialEq, Eq, Hash)]
 pub enum ModelName {
     Rc20,
     Ra,
     Sra,
     Wra,
     Relaxed,
+}
+
+impl Plain for ModelName {
+    ghost use Rattle.std.proofs.Common.{rules};
+
+    ghost plain = { record { clones = λ x y same. same; never_fails = λ x. tt; equals = Prim.search rules } };
 }
 
 impl ModelName {

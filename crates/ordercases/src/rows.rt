@@ -47,9 +47,8 @@ pub(crate) fn check_group(rt: &impl Abort, heap: Global, group: &str) -> Result<
         let (listed, expected) = row.split_once('|').unwrap_or((row, ""));
         let order = order(heap, listed)?;
         let expected = answers(expected)?;
-        assert_eq!(rt;
-            with_each_rule(&sealed, order.as_slice()),
-            expected,
+        assert!(rt;
+            with_each_rule(&sealed, order.as_slice()) == expected,
             "{run}: {row}"
         );
         let [rc20, reads_from, empty] = expected;
@@ -60,7 +59,7 @@ pub(crate) fn check_group(rt: &impl Abort, heap: Global, group: &str) -> Result<
             reads_from[2],
             empty[0],
         ];
-        assert_eq!(rt; by_number(&sealed, order.as_slice()), named, "{run}: {row}");
+        assert!(rt; by_number(&sealed, order.as_slice()) == named, "{run}: {row}");
     }
     Ok(())
 }

@@ -24,7 +24,7 @@ const FAULTS: [(RecordFault, u8, usize); 13] = [
 fn each_fault(rt: HostRuntime) -> Result<(), Fail> {
     for (fault, number, place) in FAULTS {
         let told = (fault.number(), fault.place(), fault.layer());
-        assert_eq!(rt; told, (number, place, Layer::Record));
+        assert!(rt; told == (number, place, Layer::Record));
         let text = format!(in rt.alloc(); "refused {number} {place}")?;
         assert_eq!(rt; fault.to_string(rt.alloc())?, text);
     }

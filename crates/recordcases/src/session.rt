@@ -38,10 +38,10 @@ fn ask_all(rt: &impl Abort, sealed: &SealedRecord, count: u16) {
     assert_eq!(rt; sealed.count(), usize::from(count));
     for i in 0..count {
         let expected = Event::try_from(planned(i)).ok();
-        assert_eq!(rt; sealed.event(usize::from(i) + 1).ok(), expected);
+        assert!(rt; sealed.event(usize::from(i) + 1).ok() == expected);
     }
     for i in [0, usize::from(count) + 1] {
-        assert_eq!(rt; sealed.event(i), Err(CheckerFault::NoEvent(i)));
+        assert!(rt; sealed.event(i) == Err(CheckerFault::NoEvent(i)));
     }
 }
 

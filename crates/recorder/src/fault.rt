@@ -2,15 +2,16 @@
 ghost use Rattle.events.specs.declared.refusal.Layer.TheVariants.{Record};
 ghost use Rattle.std.specs.Prelude.{Some};
 ghost use Rattle.events.specs.Text.{refused_text};
-ghost use Rattle.recorder.specs.Faults.{fault_number, fault_place};
+ghost use Rattle.recorder.specs.Faults.{fault_code};
 
+use events::plain::Plain;
 use events::raw::FieldFault;
 use events::refusal::{Layer, Refusal};
 use events::text::Refused;
 use std::error::Error;
 use std::fmt;
 
-#[derive(Clone, Copy, Debug, PartialEq, Eq, Hash)]
+#[derive(Clone, Copy, PartialEq, Eq, Hash)]
 pub enum RecordFault {
     /// The event to be noted has this field out of its range.
     Field(FieldFault),
@@ -34,40 +35,29 @@ pub enum RecordFault {
     Damaged(usize),
 }
 
-impl Refusal for RecordFault {
-    ghost number = { fault_number };
+impl Plain for RecordFault {
+    ghost use Rattle.std.proofs.Common.{rules};
 
-    ghost place = { fault_place };
+    ghost plain = { record { clones = λ x y same. same; never_fails = λ x. tt; equals = Prim.search rules } };
+}
+
+impl Refusal for RecordFault {
+    ghost code = { fault_code };
 
     ghost layer = { Record };
 
-    fn number(&self) -> u8 {
+    fn code(&self) -> (u8, usize) {
         match self {
-            RecordFault::Field(field) => field.number(),
-            RecordFault::NoEvent(_) => 5,
-            RecordFault::NotALoad(_) => 6,
-            RecordFault::Unfit(_) => 7,
-            RecordFault::ShortMemory => 9,
-            RecordFault::TooMany => 20,
-            RecordFault::NoEvents => 21,
-            RecordFault::StillRead(_) => 22,
-            RecordFault::NoWriter(_) => 23,
-            RecordFault::Damaged(_) => 25,
-        }
-    }
-
-    fn place(&self) -> usize {
-        match self {
-            RecordFault::NoEvent(i)
-            | RecordFault::NotALoad(i)
-            | RecordFault::Unfit(i)
-            | RecordFault::StillRead(i)
-            | RecordFault::NoWriter(i)
-            | RecordFault::Damaged(i) => *i,
-            RecordFault::Field(_)
-            | RecordFault::ShortMemory
-            | RecordFault::TooMany
-            | RecordFault::NoEvents => 0,
+            RecordFault::Field(field) => (field.number(), 0),
+            RecordFault::NoEvent(i) => (5, *i),
+            RecordFault::NotALoad(i) => (6, *i),
+            RecordFault::Unfit(i) => (7, *i),
+            RecordFault::ShortMemory => (9, 0),
+            RecordFault::TooMany => (20, 0),
+            RecordFault::NoEvents => (21, 0),
+            RecordFault::StillRead(i) => (22, *i),
+            RecordFault::NoWriter(i) => (23, *i),
+            RecordFault::Damaged(i) => (25, *i),
         }
     }
 
@@ -77,10 +67,19 @@ impl Refusal for RecordFault {
 }
 
 impl fmt::Display for RecordFault {
-    ghost output = { λ f. Some (refused_text (fault_number f) (fault_place f)) };
+    ghost output = { λ f. Some (refused_text (fault_code f)) };
 
     fn fmt<W: fmt::Write>(&self, f: &mut fmt::Formatter<W>) -> fmt::Result {
         write!(f, "{}", Refused(*self))
+    }
+}
+
+// `Error` wants one. It shows what `Display` does.
+impl fmt::Debug for RecordFault {
+    ghost debug_output = { λ f. Some (refused_text (fault_code f)) };
+
+    fn fmt<W: fmt::Write>(&self, f: &mut fmt::Formatter<W>) -> fmt::Result {
+        fmt::Display::fmt(self, f)
     }
 }
 

@@ -9,7 +9,7 @@ use Rattle.events.specs.Graph.{Inside}
 use Rattle.events.specs.Text.{refused_text}
 use Rattle.events.specs.declared.event.Event.{Event}
 use Rattle.events.specs.Relations.{Rel}
-use Rattle.executions.specs.Faults.{fault_number, fault_place}
+use Rattle.executions.specs.Faults.{fault_code}
 use Rattle.executions.specs.declared.fault.CheckerFault.{CheckerFault}
 use Rattle.toposort.proofs.Pigeons.{pigeons}
 use Rattle.models.specs.Models.{Hb}
@@ -39,7 +39,7 @@ model_fits Wra = omega arith
 model_fits Relaxed = omega arith
 
 -- a refusal, of which the number has two digits at most and the place three
-refused_fits : (number place : ℕ) → number < 100 → length (decimal place) ≤ 3 → length (refused_text number place) ≤ 14
+refused_fits : (number place : ℕ) → number < 100 → length (decimal place) ≤ 3 → length (refused_text (number, place)) ≤ 14
 refused_fits number place low few =
     let digits = length-decimal-le 2 number (omega arith) low (omega arith) in
     simp length-append (omega arith)
@@ -58,15 +58,15 @@ module _ (es : List Event) (full : FullRun es) where
   ordered_room Whole o l = listed_room o l
   ordered_room Weak o none = subst (λ p. room (order_words es p) ≤ 8 * max_events) (sym none) (omega arith)
 
-  update_fits : (u : ℕ) → Update es u → length (refused_text 24 u) ≤ 14
+  update_fits : (u : ℕ) → Update es u → length (refused_text (24, u)) ≤ 14
   update_fits u is = refused_fits 24 u (omega arith) (event_digits es full u (is.0))
 
   fault_fits : (scope : Scope) (order : List ℕ) (steps : List Step) (f : CheckerFault) → Refuses scope es order steps f
-      → length (refused_text (fault_number f) (fault_place f)) ≤ 14
+      → length (refused_text (fault_code f)) ≤ 14
   fault_fits scope order steps f (inl (short, is)) =
-      subst (λ x. length (refused_text (fault_number x) (fault_place x)) ≤ 14) (sym is) (refused_fits 9 0 (omega arith) (length-decimal-le 3 0 (omega arith) (omega arith) (omega arith)))
+      subst (λ x. length (refused_text (fault_code x)) ≤ 14) (sym is) (refused_fits 9 0 (omega arith) (length-decimal-le 3 0 (omega arith) (omega arith) (omega arith)))
   fault_fits scope order steps f (inr (_, _, (u, lowest, is))) =
-      subst (λ x. length (refused_text (fault_number x) (fault_place x)) ≤ 14) (sym is) (update_fits u (lowest.0))
+      subst (λ x. length (refused_text (fault_code x)) ≤ 14) (sym is) (update_fits u (lowest.0))
 
   module _ (scope : Scope) (sw : Rel) (inside : Inside es sw) where
     -- all words but the model's

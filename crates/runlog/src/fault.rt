@@ -2,14 +2,15 @@
 ghost use Rattle.events.specs.declared.refusal.Layer.TheVariants.{Log as LogLayer};
 ghost use Rattle.std.specs.Prelude.{Some};
 ghost use Rattle.events.specs.Text.{refused_text};
-ghost use Rattle.runlog.specs.Faults.{fault_number, fault_place};
+ghost use Rattle.runlog.specs.Faults.{fault_code};
 
+use events::plain::Plain;
 use events::refusal::{Layer, Refusal};
 use events::text::Refused;
 use std::error::Error;
 use std::fmt;
 
-#[derive(Clone, Copy, Debug, PartialEq, Eq, Hash)]
+#[derive(Clone, Copy, PartialEq, Eq, Hash)]
 pub enum LogFault {
     /// What begins here is neither an event record nor an end record that counts right; or it follows the end record.
     Shape(usize),
@@ -19,24 +20,22 @@ pub enum LogFault {
     TooMany(usize),
 }
 
-impl Refusal for LogFault {
-    ghost number = { fault_number };
+impl Plain for LogFault {
+    ghost use Rattle.std.proofs.Common.{rules};
 
-    ghost place = { fault_place };
+    ghost plain = { record { clones = λ x y same. same; never_fails = λ x. tt; equals = Prim.search rules } };
+}
+
+impl Refusal for LogFault {
+    ghost code = { fault_code };
 
     ghost layer = { LogLayer };
 
-    fn number(&self) -> u8 {
+    fn code(&self) -> (u8, usize) {
         match self {
-            LogFault::Shape(_) => 10,
-            LogFault::BadEvent(_) => 11,
-            LogFault::TooMany(_) => 20,
-        }
-    }
-
-    fn place(&self) -> usize {
-        match self {
-            LogFault::Shape(at) | LogFault::BadEvent(at) | LogFault::TooMany(at) => *at,
+            LogFault::Shape(at) => (10, *at),
+            LogFault::BadEvent(at) => (11, *at),
+            LogFault::TooMany(at) => (20, *at),
         }
     }
 
@@ -46,10 +45,19 @@ impl Refusal for LogFault {
 }
 
 impl fmt::Display for LogFault {
-    ghost output = { λ f. Some (refused_text (fault_number f) (fault_place f)) };
+    ghost output = { λ f. Some (refused_text (fault_code f)) };
 
     fn fmt<W: fmt::Write>(&self, f: &mut fmt::Formatter<W>) -> fmt::Result {
         write!(f, "{}", Refused(*self))
+    }
+}
+
+// `Error` wants one. It shows what `Display` does.
+impl fmt::Debug for LogFault {
+    ghost debug_output = { λ f. Some (refused_text (fault_code f)) };
+
+    fn fmt<W: fmt::Write>(&self, f: &mut fmt::Formatter<W>) -> fmt::Result {
+        fmt::Display::fmt(self, f)
     }
 }
 

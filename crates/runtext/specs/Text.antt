@@ -4,7 +4,7 @@ use Rattle.std.specs.List.{flat_map}
 use Rattle.events.specs.Text.{event_text, refused_text}
 use Rattle.events.specs.Run.{FullRun}
 use Rattle.events.specs.declared.event.Event.{Event}
-use Rattle.runlog.specs.Faults.{fault_number, fault_place}
+use Rattle.runlog.specs.Faults.{fault_code}
 use Rattle.runlog.specs.FirstFault.{FirstFault}
 use Rattle.runlog.specs.Reading.{reading}
 use Rattle.runlog.specs.Spelling.{spelling}
@@ -23,7 +23,7 @@ run_text es = lines_text es ++ (decimal (length es) ++ codes " events\n")
 
 -- the number and the place of a refusal
 abbrev pub refusal_text : LogFault → List ℕ
-refusal_text f = codes "log " ++ (refused_text (fault_number f) (fault_place f) ++ codes "\n")
+refusal_text f = codes "log " ++ (refused_text (fault_code f) ++ codes "\n")
 
 -- the run, or the refusal
 abbrev pub log_text : Result (List Event) LogFault → List ℕ

@@ -2,6 +2,7 @@
 
 use crate::handed::Handed;
 use events::event::Event;
+use events::plain::Plain;
 use executions::fault::CheckerFault;
 use recorder::fault::RecordFault;
 
@@ -33,6 +34,12 @@ pub enum Call {
     Event(usize),
 }
 
+impl Plain for Call {
+    ghost use Rattle.std.proofs.Common.{rules};
+
+    ghost plain = { record { clones = λ x y same. same; never_fails = λ x. tt; equals = Prim.search rules } };
+}
+
 #[derive(Clone, Copy, PartialEq, Eq)]
 pub enum Answer {
     /// An event was noted, with this number.
@@ -48,6 +55,12 @@ pub enum Answer {
     NotShown(CheckerFault),
     /// The call is one that does not compile: of an open record while the record is sealed, or of a sealed one while it is open.
     Barred,
+}
+
+impl Plain for Answer {
+    ghost use Rattle.std.proofs.Common.{rules};
+
+    ghost plain = { record { clones = λ x y same. same; never_fails = λ x. tt; equals = Prim.search rules } };
 }
 
 impl From<Result<usize, RecordFault>> for Answer {

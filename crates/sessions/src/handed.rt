@@ -3,6 +3,7 @@ ghost use Rattle.std.specs.Prelude.{◌<◌};
 ghost use Rattle.events.specs.Limits.{max_events};
 
 use events::limits::MAX_EVENTS;
+use events::plain::Plain;
 
 /// A part of the other memory with fewer places than a run may have events: so many places from this one on, or as many as there
 /// are.
@@ -11,6 +12,12 @@ pub struct ShortPart {
     pub(crate) from: usize,
     pub(crate) places: usize,
     ghost short: { places < max_events },
+}
+
+impl Plain for ShortPart {
+    ghost use Rattle.std.proofs.Common.{rules};
+
+    ghost plain = { record { clones = λ x y same. same; never_fails = λ x. tt; equals = Prim.search rules } };
 }
 
 impl ShortPart {
@@ -45,4 +52,10 @@ pub enum Handed {
     Own(usize),
     /// Memory that is another's. It is too short for a record, whatever it holds.
     Other(ShortPart),
+}
+
+impl Plain for Handed {
+    ghost use Rattle.std.proofs.Common.{rules};
+
+    ghost plain = { record { clones = λ x y same. same; never_fails = λ x. tt; equals = Prim.search rules } };
 }

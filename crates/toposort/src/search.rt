@@ -12,9 +12,10 @@ use crate::cycle::write_cycle;
 use crate::graph::Graph;
 use crate::ready::{PLACES, lowest_ready};
 use events::limits::MAX_EVENTS;
+use events::plain::Plain;
 
 /// What was found of a graph, and written into the listing.
-#[derive(Clone, Copy, Debug, PartialEq, Eq)]
+#[derive(Clone, Copy, PartialEq, Eq)]
 pub enum Found {
     /// Each node once, so that each edge goes forward; at each turn the lowest node that is ready.
     Listing,
@@ -22,9 +23,21 @@ pub enum Found {
     Cycle(usize),
 }
 
+impl Plain for Found {
+    ghost use Rattle.std.proofs.Common.{rules};
+
+    ghost plain = { record { clones = λ x y same. same; never_fails = λ x. tt; equals = Prim.search rules } };
+}
+
 /// The listing has fewer places than the graph has nodes.
-#[derive(Clone, Copy, Debug, PartialEq, Eq)]
+#[derive(Clone, Copy, PartialEq, Eq)]
 pub struct ShortListing;
+
+impl Plain for ShortListing {
+    ghost use Rattle.std.proofs.Common.{rules};
+
+    ghost plain = { record { clones = λ x y same. same; never_fails = λ x. tt; equals = Prim.search rules } };
+}
 
 // The search, where the listing has room.
 fn search<G: Graph>(graph: &G, listing: &mut [u16]) -> Found

@@ -64,7 +64,7 @@ const fn given(
 fn search_each(rt: &impl Abort, rows: &[Row]) {
     for row in rows {
         let mut listing = [9; 5];
-        assert_eq!(rt; toposort(&row.graph, &mut listing), row.answer);
+        assert!(rt; toposort(&row.graph, &mut listing) == row.answer);
         assert_eq!(rt; listing, row.after);
     }
 }

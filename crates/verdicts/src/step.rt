@@ -2,8 +2,10 @@
 ghost use Rattle.std.specs.Prelude.{◌≡◌};
 ghost use Rattle.verdicts.specs.Numbers.{sort_number, sort_load};
 
+use events::plain::Plain;
+
 /// Why a step leads from one event to another.
-#[derive(Clone, Copy, Debug, PartialEq, Eq, Hash)]
+#[derive(Clone, Copy, PartialEq, Eq, Hash)]
 pub enum Sort {
     /// Program order.
     Po,
@@ -15,6 +17,12 @@ pub enum Sort {
     Read(u16),
     /// Happens-before.
     Hb,
+}
+
+impl Plain for Sort {
+    ghost use Rattle.std.proofs.Common.{rules};
+
+    ghost plain = { record { clones = λ x y same. same; never_fails = λ x. tt; equals = Prim.search rules } };
 }
 
 impl Sort {
@@ -43,9 +51,15 @@ impl Sort {
 }
 
 /// A step from one event to another.
-#[derive(Clone, Copy, Debug, PartialEq, Eq, Hash)]
+#[derive(Clone, Copy, PartialEq, Eq, Hash)]
 pub struct Step {
     pub from: u16,
     pub to: u16,
     pub sort: Sort,
+}
+
+impl Plain for Step {
+    ghost use Rattle.std.proofs.Common.{rules};
+
+    ghost plain = { record { clones = λ x y same. same; never_fails = λ x. tt; equals = Prim.search rules } };
 }

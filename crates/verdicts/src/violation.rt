@@ -2,8 +2,10 @@
 ghost use Rattle.std.specs.Prelude.{◌≡◌};
 ghost use Rattle.verdicts.specs.Numbers.{violation_number, step_count};
 
+use events::plain::Plain;
+
 /// What rules every order of a run out. The steps that show it stand in the caller's step buffer.
-#[derive(Clone, Copy, Debug, PartialEq, Eq, Hash)]
+#[derive(Clone, Copy, PartialEq, Eq, Hash)]
 pub enum Violation {
     /// So many different events, each joined to the next by program order or reads-from, and the last to the first.
     Causal(usize),
@@ -19,6 +21,12 @@ pub enum Violation {
     Round(u8, usize),
     /// So many different events, each joined to the next by happens-before or a read step, and the last to the first.
     Whole(usize),
+}
+
+impl Plain for Violation {
+    ghost use Rattle.std.proofs.Common.{rules};
+
+    ghost plain = { record { clones = λ x y same. same; never_fails = λ x. tt; equals = Prim.search rules } };
 }
 
 impl Violation {

@@ -3,7 +3,7 @@ use Rattle.std.specs.Prelude.{ℕ, List, [], ◌∷◌, ◌++◌, Ok, Err, codes
 use Rattle.std.specs.List.{join_with_byte}
 use Rattle.events.specs.Text.{refused_text}
 use Rattle.events.specs.declared.event.Event.{Event}
-use Rattle.executions.specs.Faults.{fault_number, fault_place}
+use Rattle.executions.specs.Faults.{fault_code}
 use Rattle.executions.specs.declared.fault.CheckerFault.{CheckerFault}
 use Rattle.models.specs.declared.name.ModelName.{ModelName}
 use Rattle.models.specs.declared.name.ModelName.TheVariants.{Rc20, Ra, Sra, Wra, Relaxed}
@@ -68,7 +68,7 @@ violation_words (violation.Whole k) ss = codes "WHOLE" ∷ cycle_words ss
 abbrev pub answer_words : List Event → Result Verdict CheckerFault → List ℕ → List Step → List (List ℕ)
 answer_words es (Ok (Consistent k)) o ss = codes "consistent" ∷ order_words es (take k o)
 answer_words es (Ok (Inconsistent v)) o ss = codes "inconsistent" ∷ violation_words v (take (step_count v) ss)
-answer_words es (Err f) o ss = refused_text (fault_number f) (fault_place f) ∷ []
+answer_words es (Err f) o ss = refused_text (fault_code f) ∷ []
 
 abbrev pub line_text : ModelName → List Event → Result Verdict CheckerFault → List ℕ → List Step → List ℕ
 line_text m es answer o ss = join_with_byte space (model_word m ∷ answer_words es answer o ss)

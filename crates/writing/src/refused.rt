@@ -6,8 +6,8 @@ use crate::pen::{Full, Pen};
 use events::refusal::Refusal;
 
 // Where a piece does not fit, those before it stay.
-fn begin_refused<const N: usize>(pen: &mut Pen<N>, number: u8, place: usize) -> Result<(), Full>
-    ensures { Begins N (refused_text number place) pen.old pen.new result }
+fn begin_refused<const N: usize>(pen: &mut Pen<N>, (number, place): (u8, usize)) -> Result<(), Full>
+    ensures { Begins N (refused_text (number, place)) pen.old pen.new result }
 {
     pen.push_all(b"refused ")?;
     pen.number(usize::from(number))?;
@@ -17,9 +17,9 @@ fn begin_refused<const N: usize>(pen: &mut Pen<N>, number: u8, place: usize) -> 
 
 /// Writes this refusal: its number and its place.
 pub fn push_refused<R: Refusal, const N: usize>(pen: &mut Pen<N>, refusal: &R) -> Result<(), Full>
-    ensures { Pushes N (refused_text (R.number refusal.now) (R.place refusal.now)) pen.old pen.new result }
+    ensures { Pushes N (refused_text (R.code refusal.now)) pen.old pen.new result }
 {
     let count = pen.text().len();
-    let begun = begin_refused(pen, refusal.number(), refusal.place());
+    let begun = begin_refused(pen, refusal.code());
     pen.all_or_nothing(count, begun)
 }
