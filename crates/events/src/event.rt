@@ -14,9 +14,7 @@ pub enum Kind {
 }
 
 impl Plain for Kind {
-    ghost use Rattle.std.proofs.Common.{rules};
-
-    ghost plain = { record { clones = λ x y same. same; never_fails = λ x. tt; equals = Prim.search rules } };
+    ghost plain = { record { clones = λ x y same. same; never_fails = λ x. tt } };
 }
 
 /// How an event is ordered with others.
@@ -29,9 +27,7 @@ pub enum Mode {
 }
 
 impl Plain for Mode {
-    ghost use Rattle.std.proofs.Common.{rules};
-
-    ghost plain = { record { clones = λ x y same. same; never_fails = λ x. tt; equals = Prim.search rules } };
+    ghost plain = { record { clones = λ x y same. same; never_fails = λ x. tt } };
 }
 
 /// The writer is the number of the store that a load reads from, and 0 where there is none.
@@ -48,9 +44,7 @@ pub struct Event {
 }
 
 impl Plain for Event {
-    ghost use Rattle.std.proofs.Common.{arith};
-
-    ghost plain = { record { clones = λ x y same. same; never_fails = λ x. tt; equals = λ x y. Prim.grind arith } };
+    ghost plain = { record { clones = λ x y same. same; never_fails = λ x. tt } };
 }
 
 // A method for each word that the memory models use: `kind.is_among(&LOADS)` in place of each would be no plainer.

@@ -17,9 +17,7 @@ pub struct RawEvent {
 }
 
 impl Plain for RawEvent {
-    ghost use Rattle.std.proofs.Common.{rules};
-
-    ghost plain = { record { clones = λ x y same. same; never_fails = λ x. tt; equals = Prim.search rules } };
+    ghost plain = { record { clones = λ x y same. same; never_fails = λ x. tt } };
 }
 
 /// The field that rules the numbers out. Each has a number of its own, though a log does not tell them apart.
@@ -32,9 +30,7 @@ pub enum FieldFault {
 }
 
 impl Plain for FieldFault {
-    ghost use Rattle.std.proofs.Common.{rules};
-
-    ghost plain = { record { clones = λ x y same. same; never_fails = λ x. tt; equals = Prim.search rules } };
+    ghost plain = { record { clones = λ x y same. same; never_fails = λ x. tt } };
 }
 
 impl FieldFault {

@@ -21,9 +21,7 @@ pub enum LogFault {
 }
 
 impl Plain for LogFault {
-    ghost use Rattle.std.proofs.Common.{rules};
-
-    ghost plain = { record { clones = λ x y same. same; never_fails = λ x. tt; equals = Prim.search rules } };
+    ghost plain = { record { clones = λ x y same. same; never_fails = λ x. tt } };
 }
 
 impl Refusal for LogFault {

@@ -35,9 +35,7 @@ pub enum Call {
 }
 
 impl Plain for Call {
-    ghost use Rattle.std.proofs.Common.{rules};
-
-    ghost plain = { record { clones = λ x y same. same; never_fails = λ x. tt; equals = Prim.search rules } };
+    ghost plain = { record { clones = λ x y same. same; never_fails = λ x. tt } };
 }
 
 #[derive(Clone, Copy, PartialEq, Eq)]
@@ -58,9 +56,7 @@ pub enum Answer {
 }
 
 impl Plain for Answer {
-    ghost use Rattle.std.proofs.Common.{rules};
-
-    ghost plain = { record { clones = λ x y same. same; never_fails = λ x. tt; equals = Prim.search rules } };
+    ghost plain = { record { clones = λ x y same. same; never_fails = λ x. tt } };
 }
 
 impl From<Result<usize, RecordFault>> for Answer {

@@ -20,9 +20,7 @@ pub enum Sort {
 }
 
 impl Plain for Sort {
-    ghost use Rattle.std.proofs.Common.{rules};
-
-    ghost plain = { record { clones = λ x y same. same; never_fails = λ x. tt; equals = Prim.search rules } };
+    ghost plain = { record { clones = λ x y same. same; never_fails = λ x. tt } };
 }
 
 impl Sort {
@@ -59,7 +57,5 @@ pub struct Step {
 }
 
 impl Plain for Step {
-    ghost use Rattle.std.proofs.Common.{rules};
-
-    ghost plain = { record { clones = λ x y same. same; never_fails = λ x. tt; equals = Prim.search rules } };
+    ghost plain = { record { clones = λ x y same. same; never_fails = λ x. tt } };
 }
