@@ -154,18 +154,23 @@ class Session:
         self.record, self.sealed = 0, None
 
     def faults(self, call):
-        """All that is wrong with a call of the open record."""
+        """All that is wrong with a call of the open record; the others have no faults of the record."""
+        if call[0] not in FAULTS:
+            return ()
         name, memory, places, *numbers = call
         return FAULTS[name](self.memories[memory][:places], self.record, *numbers)
 
+    def is_barred(self, call):
+        """Whether the call is of an open record and this one is sealed, or the other way round."""
+        return (call[0] in OF_SEALED) != (self.sealed is not None)
+
     def answer(self, call):
         """Carries out a call, any but `open`, and gives the line that is printed."""
-        name, *given = call
-        if (name in OF_SEALED) != (self.sealed is not None):
+        if self.is_barred(call):
             return "barred"
-        if name in FAULTS:
-            for number, place in self.faults(call):
-                return f"record refused {number} {place}"
+        for number, place in self.faults(call):
+            return f"record refused {number} {place}"
+        name, *given = call
         return getattr(self, name)(*given)
 
     def note(self, memory, _, *fields):
@@ -207,24 +212,28 @@ class Session:
                 for number, place in enumerate(memory, 1) if any(place)]
 
 
-def carry_out(script):
-    """For each line in turn the session after it, the call and the lines that are printed; at last those of the end."""
+def carry_out(script, printed):
+    """Carries out the lines one after another, and adds what each prints. Gives each call with the session before it."""
     session = Session()
     for line in lines_of(script):
         call = read_line(line)
+        yield session, call
         if call is None:
-            yield session, call, ["not a call"]
+            printed.append("not a call")
         elif call == ("open",):
-            printed, session = session.places() + ["open"], Session()
-            yield session, call, printed
+            printed += session.places() + ["open"]
+            session = Session()
         else:
-            yield session, call, [session.answer(call)]
-    yield session, None, session.places()
+            printed.append(session.answer(call))
+    printed += session.places()
 
 
 def answers(script):
     """The lines for a script."""
-    return [line for _, _, printed in carry_out(script) for line in printed]
+    printed = []
+    for _ in carry_out(script, printed):
+        pass
+    return printed
 
 
 # The same calls again, and nothing shared with the above: right as long as nothing damages the memory.
