@@ -1,4 +1,7 @@
-"""Runs the program `manyrecords` on drawn lists of calls and compares what it prints with the oracle, letter for letter."""
+"""Runs the program `manyrecords` on drawn lists of calls and compares what it prints with the oracle.
+
+All that is printed must be equal, letter for letter. Many lists go in one input, each begun by `open`.
+"""
 
 import argparse
 import sys
@@ -14,7 +17,7 @@ from records import KIND, LOCATION, STORES, WRITER, answers, carry_out, field_fa
 
 LONGEST_WAIT = 120
 LISTS_AT_ONCE = 25
-ENOUGH = 2_000
+ENOUGH = 5_000
 
 # What can become of each call: obeyed, barred, or refused with a number.
 OUTCOMES = {
@@ -40,8 +43,8 @@ NOTES = {
     "event": ("obeyed a fence", "obeyed an update"),
 }
 DAMAGED = tuple(f"25 {why}" for why in (
-    "field 1", "field 2", "field 3", "field 4", "writer of a write", "writer of a fence", "writer itself", "writer no store",
-    "writer elsewhere", "writer above the count"))
+    "field 1", "field 2", "field 3", "field 4", "writer of a write", "writer of a fence", "writer itself",
+    "writer no store", "writer elsewhere", "writer above the count"))
 CAN_OCCUR = [(name, outcome) for name, outcomes in OUTCOMES.items() for outcome in outcomes]
 CAN_OCCUR += [(name, note) for name, notes in NOTES.items() for note in notes]
 CAN_OCCUR += [(name, why) for name in ("note", "link", "retract", "seal") for why in DAMAGED]
@@ -66,7 +69,7 @@ def why_unfit(places, event, writer):
 def why_damaged(places, event):
     """What is wrong with a damaged place."""
     *fields, writer = places[event - 1]
-    faults = list(field_faults(*fields))
+    faults = field_faults(*fields)
     if faults:
         return f"field {faults[0]}"
     if not is_load(places[event - 1]):
@@ -82,7 +85,7 @@ def why_refused(memory, count, event, writer):
         return "itself, an update" if here[KIND] in STORES else "itself, a read"
     if why != "above the count":
         return why
-    if writer <= len(memory) and memory[writer - 1][KIND] in STORES and memory[writer - 1][LOCATION] == here[LOCATION]:
+    if writer <= len(memory) and fits(memory, event, writer):
         return "once a store there, taken back"
     low_bytes = {writer % 256, writer % 65_536} - {writer}
     return "fits by its low bytes" if any(fits(places, event, low) for low in low_bytes) else why
@@ -109,9 +112,10 @@ def notes_on_obeyed(memory, count, call):
         return [f"with {count or 'no'} events"] * (count in (0, MOST_EVENTS))
     if call[0] == "link":
         old, event, new = memory[call[3] - 1][WRITER], *call[3:]
-        return ["cleared"] * (new == 0) + ["to a later event"] * (new > event) + ["in place of another"] * (new != old > 0 < new)
+        is_other = old != 0 and new not in (0, old)
+        return ["cleared"] * (new == 0) + ["to a later event"] * (new > event) + ["in place of another"] * is_other
     if call[0] == "event":
-        return ["a fence"] * (memory[call[1] - 1][KIND] == FENCE) + ["an update"] * (memory[call[1] - 1][KIND] == UPDATE)
+        return {FENCE: ["a fence"], UPDATE: ["an update"]}.get(memory[call[1] - 1][KIND], [])
     return []
 
 
@@ -135,9 +139,11 @@ def outcomes_of(session, call):
     return [(name, "obeyed")] + [(name, f"obeyed {note}") for note in notes_on_obeyed(memory, count, call)]
 
 
-def counts_of(script):
-    """How often each outcome and each note came of a script."""
-    return Counter(each for session, call in carry_out(script, []) for each in outcomes_of(session, call))
+def answers_and_counts(script):
+    """The oracle's lines for a script, and how often each outcome and each note came of it."""
+    printed = []
+    counts = Counter(each for session, call in carry_out(script, printed) for each in outcomes_of(session, call))
+    return printed, counts
 
 
 def never(counts):
@@ -188,26 +194,30 @@ def complaints_about(wanted, printed, status=0, errors=""):
     return complaints + [f"output line {at + 1} is {printed_lines[at]!r} for {lines[at]!r}"]
 
 
-def complaints_of(program, script):
+def complaints_of(program, script, wanted):
     """All that is wrong with what the program does with a script."""
     try:
-        return complaints_about(answers(script), *run_program(program, script))
+        return complaints_about(wanted, *run_program(program, script))
     except TimeoutExpired:
         return [f"no answer in {LONGEST_WAIT} seconds"]
 
 
 def compare_lists(program, seed, lists, first):
-    """The complaints and the counts of the lists from an index on. Where they are wrong together, each is looked at alone."""
+    """The complaints about the lists from an index on, each with its script, and the counts.
+
+    Where they are wrong together, each list is looked at alone.
+    """
     indices = range(first, min(first + LISTS_AT_ONCE, lists))
     script = script_of(seed, indices)
-    together = complaints_of(program, script)
-    wrong = []
+    wanted, counts = answers_and_counts(script)
+    together, wrong = complaints_of(program, script, wanted), []
     for index in indices if together else ():
-        lines = drawn_list(seed, index)
-        wrong += [(f"list {index}: {complaint}", as_script([lines])) for complaint in complaints_of(program, as_script([lines]))]
+        alone = as_script([drawn_list(seed, index)])
+        complaints = complaints_of(program, alone, answers(alone))
+        wrong += [(f"list {index}: {complaint}", alone) for complaint in complaints]
     if together and not wrong:
         wrong = [(f"lists {indices[0]} to {indices[-1]} together: {complaint}", script) for complaint in together]
-    return wrong, counts_of(script)
+    return wrong, counts
 
 
 def compare_all(program, seed, lists, jobs):

@@ -9,7 +9,7 @@ from random import Random
 from logs import ALLOWED, FENCE, MOST_EVENTS, MOST_LOCATIONS, MOST_THREADS, READ, UPDATE, WRITE
 from records import FIELDS, PLACES, STORES, WRITER, Session, fits, is_load, read_line
 
-LONG_EVERY = 150
+LONG_EVERY = 300
 LONG_ENOUGH, TOO_SHORT = (512, 513, 519, 520, 521, 999_999), (0, 1, 2, 256, 510, 511, 511, 511)
 BYTES = (0, 1, 2, 3, 4, 5, 7, 8, 9, 63, 64, 65, 128, 254, 255)
 NUMBERS = (0, 1, 2, 255, 256, 257, 511, 512, 513, 520, 521, 65_535, 65_536, 65_537, 2 ** 31, 2 ** 32 - 1)
@@ -175,8 +175,14 @@ def link_unfit(d):
     if not loads:
         return note(d)
     event = d.r.choice(loads)
+    if d.r.random() < 0.2:
+        store(d, event)
+        retract(d)
+        count = d.session.record
     here = d.places()[event - 1][3]
     unfit = [[writer] for writer in (count + 1, count + 1, d.r.choice(NUMBERS))]
+    behind = d.session.memories["own"][count:count + 3]
+    unfit += [[writer for writer, place in enumerate(behind, count + 1) if place[1] in STORES and place[3] == here]]
     unfit += [d.events(lambda place: place[1] not in STORES), d.events(lambda place: place[3] != here)]
     unfit += [[writer + over for writer in fitting(d, event)] for over in (256, 65_536, 2 ** 31)]
     return d.say("link", *d.handed(), event, d.r.choice(d.r.choice([writers for writers in unfit if writers])))
@@ -227,7 +233,7 @@ def damage_any(d):
     """Any field of a place, mostly within the count or right behind it."""
     count, field = d.session.record, d.r.choice(FIELDS)
     place = d.r.choice([*range(1, count + 1)] * 2 + [count + 1, 512, 513, 520, d.r.randint(1, 520)])
-    values = (0, 1, count, count + 1, place, 512, 513, 65_535) if field == "writer" else BYTES
+    values = (0, 1, count, count + 1, place, place, 512, 513, 65_535) if field == "writer" else BYTES
     damage(d, min(place, 520), field, d.r.choice(values))
 
 
@@ -239,7 +245,7 @@ def damage_link(d):
     event, count = d.r.choice(linked), d.session.record
     writer = d.places()[event - 1][WRITER]
     damage(d, *d.r.choice((
-        (event, "writer", d.r.choice((0, event, count, count + 1, 513, 65_535, d.r.randint(1, count)))),
+        (event, "writer", d.r.choice((0, event, event, count, count + 1, 513, 65_535, d.r.randint(1, count)))),
         (event, "location", d.r.choice((0, 1, 2, 3, 64, 65, 255))),
         (event, "kind", d.r.choice((READ, WRITE, UPDATE, FENCE, 0, 5))),
         (min(writer, 520), "kind", d.r.choice((READ, UPDATE, FENCE, 0, 5))),
@@ -274,15 +280,16 @@ def damaged_round(d):
     for _ in range(d.r.choice((1, 1, 1, 2))):
         d.r.choice((damage_any, damage_link, damage_link, damage_no_load))(d)
     for _ in range(d.r.choice((1, 1, 2, 3))):
-        d.r.choice((note, link, retract, seal, bad_note, link_nothing, link_no_load, link_unfit, link_itself, short))(d)
+        d.r.choice((note, link, retract, retract, retract, seal, seal, bad_note, link_nothing, link_no_load, link_unfit,
+                    link_itself, short))(d)
     if d.r.random() < 0.85:
         repair(d)
 
 
 # Lines that are not calls, and calls that are just inside.
 
-GOOD_LINES = ("note own 512 1 2 0 1", "link own 512 1 0", "retract own 512", "seal own 512", "reopen", "count", "event 1",
-              "damage own 1 thread 1", "damage other 1 writer 1", "open")
+GOOD_LINES = ("note own 512 1 2 0 1", "link own 512 1 0", "retract own 512", "seal own 512", "reopen", "count",
+              "event 1", "damage own 1 thread 1", "damage other 1 writer 1", "open")
 EDGES = (
     "note own 999999 255 255 255 255", "note own 1000000 1 2 0 1", "note own 512 256 2 0 1", "note own 512 1 256 0 1",
     "note own 512 1 2 256 1", "note own 512 1 2 0 256", "note other 999999 1 2 0 1", "note other 1000000 1 2 0 1",
@@ -291,12 +298,14 @@ EDGES = (
     "event 4294967295", "event 4294967296", "event 0", "damage own 0 thread 1", "damage own 520 thread 255",
     "damage own 521 thread 1", "damage other 511 mode 255", "damage other 512 mode 1", "damage other 0 mode 1",
     "damage own 1 thread 256", "damage own 1 kind 256", "damage own 1 mode 256", "damage own 1 location 256",
-    "damage own 1 writer 65536", "damage own 519 writer 65535", "damage own 1 writer 256", "damage other 1 writer 65535",
+    "damage own 1 writer 65536", "damage own 519 writer 65535", "damage own 1 writer 256",
+    "damage other 1 writer 65535", "damage other 1 writer 65536",
     "note own 18446744073709551616 1 2 0 1", "event 18446744073709551617", "link own 512 4294967297 0",
     "damage own 65537 thread 1", "note own 512 257 2 0 1", "event 340282366920938463463374607431768211457",
 )
-WORDS = ("", "own", "other", "OWN", "memory", "open", "count", "0", "1", "00", "01", "+1", "-1", "-0", "1.0", "1e0", "0x1",
-         "1_0", "T1", "thread", "writer", "field", "\u0661", "\u00b2", "\u00e9", "\x00", "\t", "1\t", "1\r", "99999999999999999999")
+WORDS = ("", "own", "other", "OWN", "memory", "open", "count", "0", "1", "00", "01", "+1", "-1", "-0", "1.0", "1e0",
+         "0x1", "1_0", "T1", "thread", "writer", "field", "\u0661", "\u00b2", "\u00e9", "\x00", "\t", "1\t", "1\r",
+         "99999999999999999999")
 
 
 def edge_line(d):
@@ -314,7 +323,8 @@ def not_a_call(d):
         " ".join(words[:at] + [other] + words[at + 1:]),
         " ".join(words[:at] + [other] + words[at + 1:]),
         " ".join(words[:at] + ["0" + word for word in words[at:at + 1]] + words[at + 1:]),
-        " ".join(words).replace(" ", "\t", 1), " ".join(words) + d.r.choice((" ", "\t", "\r", "  ", "\x00", ";")),
+        " ".join(words).replace(" ", "\t", 1),
+        " ".join(words) + d.r.choice((" ", "\t", "\r", "  ", "\x00", ";")),
         " " + " ".join(words), "  ".join(words), "".join(words), " ".join(words).upper(), " ".join(words).title(),
         " ".join(words + words), "", " ", "#", "x" * d.r.choice((1, 80, 300)), "1" * d.r.choice((1, 20, 300)),
     ))
@@ -325,7 +335,7 @@ def not_a_call(d):
 # Lists.
 
 OPEN_MOVES = {
-    notes: 8, link: 10, unlink: 1, retract: 2, seal: 1, link_all_and_seal: 4, ask: 1, ask_all: 0, reopen: 1, bad_note: 2,
+    notes: 8, link: 10, unlink: 1, retract: 2, seal: 1, link_all_and_seal: 4, ask: 1, reopen: 1, bad_note: 2,
     bad_mode: 1, link_nothing: 1, link_no_load: 1, link_itself: 1, link_unfit: 2, retract_writer: 2, retract_all: 0.3,
     short: 2, damage_any: 0.5, damage_link: 0.3, damage_other: 0.3, damaged_round: 2, repair: 0.5, edge_line: 0.7,
     not_a_call: 0.7,
@@ -366,8 +376,23 @@ def small_list(r):
     return d.lines
 
 
-LAST_MOVES = (note, note, bad_note, retract, link, link_nothing, link_no_load, link_itself, link_unfit, damaged_round, short,
-              seal, ask, reopen, edge_line)
+def note_when_full(d):
+    """The record is filled up, if it can be. Then come notes that have another fault besides."""
+    for _ in range(MOST_EVENTS - d.session.record):
+        note(d)
+    for at in range(4):
+        fields = good_fields(d)
+        fields[at] = d.r.choice((65, 128, 255))
+        d.say("note", *d.handed(), *fields)
+    d.say("note", "own", d.r.choice(TOO_SHORT), *good_fields(d))
+    damage(d, d.r.randint(1, MOST_EVENTS), "thread", d.r.choice((0, 9, 255)))
+    note(d)
+    repair(d)
+    note(d)
+
+
+LAST_MOVES = (note, note, bad_note, note_when_full, retract, link, link_nothing, link_no_load, link_itself, link_unfit,
+              damaged_round, short, seal, ask, reopen, edge_line)
 
 
 def long_list(r):
@@ -375,8 +400,10 @@ def long_list(r):
     d = Drawing(r)
     d.kinds = (1, 40, 1, 2)
     for _ in range(r.choice((510, 511, 512, 512))):
-        note(d)
-    for _ in range(r.randint(6, 14)):
+        fields = good_fields(d)
+        d.lines.append(" ".join(map(str, ("note own 512", *fields))))
+        d.session.note("own", 512, *fields)
+    for _ in range(r.randint(8, 20)):
         r.choice(LAST_MOVES)(d)
     if d.session.sealed is None:
         repair(d)

@@ -6,6 +6,7 @@ names its faults in the order of the checks, and the first is the refusal. Reads
 
 import re
 import sys
+from functools import cache
 
 from logs import (ALL_MODES, ALLOWED, FENCE, MOST_EVENTS, MOST_LOCATIONS, MOST_THREADS, READ, UPDATE, WRITE, Event,
                   event_text)
@@ -74,24 +75,23 @@ def fits(places, event, writer):
     return places[writer - 1][KIND] in STORES and places[writer - 1][LOCATION] == places[event - 1][LOCATION]
 
 
+@cache
 def field_faults(thread, kind, mode, location):
     """The numbers of all fields that are out of range, in the order of the checks."""
-    if not 1 <= thread <= MOST_THREADS:
-        yield 1
-    if not READ <= kind <= FENCE:
-        yield 2
-    if mode not in ALLOWED.get(kind, ALL_MODES):
-        yield 3
-    if location != 0 if kind == FENCE else not 1 <= location <= MOST_LOCATIONS:
-        yield 4
+    return [number for number, is_out in (
+        (1, not 1 <= thread <= MOST_THREADS),
+        (2, not READ <= kind <= FENCE),
+        (3, mode not in ALLOWED.get(kind, ALL_MODES)),
+        (4, location != 0 if kind == FENCE else not 1 <= location <= MOST_LOCATIONS),
+    ) if is_out]
 
 
 def is_damaged(places, event):
     """Whether no calls leave such numbers in the event's place."""
-    *fields, writer = places[event - 1]
-    if list(field_faults(*fields)):
+    thread, kind, mode, location, writer = places[event - 1]
+    if field_faults(thread, kind, mode, location):
         return True
-    return writer != 0 and not (is_load(places[event - 1]) and fits(places, event, writer))
+    return writer != 0 and not (kind in LOADS and fits(places, event, writer))
 
 
 # The faults of each call, number and place, all of them in the order of the checks: the first is the refusal.
@@ -213,7 +213,7 @@ class Session:
 
 
 def carry_out(script, printed):
-    """Carries out the lines one after another, and adds what each prints. Gives each call with the session before it."""
+    """Carries out the lines in turn, and adds what each prints. Gives each call with the session before it."""
     session = Session()
     for line in lines_of(script):
         call = read_line(line)
