@@ -111,13 +111,14 @@ def spell(events):
     return records + END_RECORD + len(events).to_bytes(2, "little")
 
 
+def event_text(event):
+    """An event as a person reads it."""
+    kinds, modes = {1: "R", 2: "W", 3: "U", 4: "F"}, ("rlx", "acq", "rel", "acqrel")
+    words = [f"T{event.thread}", kinds[event.kind], modes[event.mode]]
+    return " ".join(words + [f"L{event.location}"] * (event.kind != FENCE)
+                    + [f"from {event.writer}"] * event.is_load())
+
+
 def text(run):
     """The lines of the run as a person reads them, each with its number."""
-    kinds, modes = {1: "R", 2: "W", 3: "U", 4: "F"}, ("rlx", "acq", "rel", "acqrel")
-    lines = []
-    for number in run.numbers():
-        event = run.event(number)
-        words = [f"{number:3}  T{event.thread}", kinds[event.kind], modes[event.mode]]
-        words += [f"L{event.location}"] * (event.kind != FENCE) + [f"from {event.writer}"] * event.is_load()
-        lines.append(" ".join(words))
-    return lines
+    return [f"{number:3}  {event_text(run.event(number))}" for number in run.numbers()]

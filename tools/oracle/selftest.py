@@ -4,6 +4,7 @@ import re
 from itertools import permutations
 from pathlib import Path
 
+import selftest_records
 from compare import compare_one, complaints_about, outcome
 from drawn import drawn
 from laid import laid
@@ -350,7 +351,7 @@ def check_too_large():
 
 
 if __name__ == "__main__":
-    for name, check in list(globals().items()):
+    for name, check in [*globals().items(), *vars(selftest_records).items()]:
         if name.startswith("check_"):
             check()
             print(f"ok {name[len('check_'):]}", flush=True)
