@@ -21,18 +21,18 @@ type Lines = Split<BufReader<Stdin>>;
 // What ends a list of calls.
 #[derive(Clone, Copy)]
 enum End {
-    /// The line `open`, which begins another.
+    // The line `open`, which begins another.
     Open,
-    /// There are no more lines.
+    // There are no more lines.
     Input,
 }
 
 // What comes of sealing a record.
 #[derive(Drop)]
 enum Sealed {
-    /// It is open again, or still.
+    // It is open again, or still.
     Reopened(OpenRecord),
-    /// The list ended while it was sealed.
+    // The list ended while it was sealed.
     Over(End),
 }
 
