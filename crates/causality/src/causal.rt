@@ -3,9 +3,8 @@ ghost use Rattle.std.specs.Prelude.{◌≡◌, ◌↔◌, ◌+◌, ◌<◌, ℕ,
 ghost use Rattle.events.specs.Limits.{max_events};
 ghost use Rattle.events.specs.Graph.{PoRf, Inside};
 ghost use Rattle.models.specs.Models.{Hb};
-ghost use Rattle.toposort.specs.Answer.{Shows};
+ghost use Rattle.toposort.specs.Answer.{WritesAnyCycle};
 ghost use Rattle.toposort.specs.Listing.{Ordered};
-ghost use Rattle.toposort.specs.declared.search.Found.TheVariants.{Cycle as CycleOf};
 ghost use Rattle.relation.specs.Pairs.{has};
 ghost use Rattle.events.specs.Relations.{Acyclic};
 ghost use Rattle.causality.specs.Causal.{CausalOrder, Step, event_at};
@@ -29,11 +28,11 @@ pub struct Causal<'a, E: Execution> {
 }
 
 impl<'a, E: Execution> Causal<'a, E> {
-    /// The causal order of a run, or a cycle where causality is broken.
+    /// The causal order of a run, or any cycle where causality is broken.
     pub fn of(run: &'a E) -> Result<Causal<'a, E>, Cycle>
         ensures { MatchResult result
             (λ c. (c.run.now ≡ run.now) × Acyclic (PoRf (E.Execution.events run.now)))
-            (λ c. ¬ Acyclic (PoRf (E.Execution.events run.now)) × Shows (length (E.Execution.events run.now)) (PoRf (E.Execution.events run.now)) (replicate max_events 0) c.nodes (CycleOf c.length)) }
+            (λ c. ¬ Acyclic (PoRf (E.Execution.events run.now)) × WritesAnyCycle c.length (length (E.Execution.events run.now)) (PoRf (E.Execution.events run.now)) (replicate max_events 0) c.nodes) }
     {
         match order_or_cycle(&CausalGraph { run }) {
             Ok(listing) => Ok(Causal { run, listing }),

@@ -7,18 +7,15 @@ use Rattle.events.specs.Graph.{Rf, PoRf}
 use Rattle.events.specs.declared.event.Kind.{Kind}
 use Rattle.events.specs.declared.event.Kind.TheVariants as kind
 use Rattle.events.specs.declared.event.Event.{Event}
-use Rattle.events.specs.Relations.{Rel, ◌⨾◌, ◌⁺, ◌？, one, more}
+use Rattle.events.specs.Relations.{◌⁺, one, more}
 use Rattle.toposort.specs.Listing.{Ordered}
 use Rattle.events.proofs.Numbers.{load_within, store_within}
 use Rattle.verdicts.specs.Chains.{InChain}
 use Rattle.verdicts.proofs.Chains.{write_store, chain_more, writer_store}
+use Rattle.chains.specs.Ends.{Member}
 use Rattle.chains.specs.Numbers.{HeadsOf}
 use Rattle.chains.specs.Lift.{Kept, KeptFor}
 use Rattle.chains.proofs.Orders.{order_all, path_earlier}
-
--- x is in the chain that g heads, or reads from it
-abbrev pub Member : List Event → Rel
-Member es = InChain es ⨾ (Rf es ？)
 
 -- a load, a store, or neither
 kinds : (k : Kind) → (k ≡ kind.Write) ⊎ ((is_load k ≡ true) ⊎ ((is_load k ≡ false) × (is_store k ≡ false)))

@@ -1,7 +1,5 @@
 -- The causal order of a run, by places.
-use Rattle.std.proofs.Common.{◌≡◌, ℕ, ◌+◌, ◌<◌, List, length, get_or, set, ⊎_elim, sym, subst, ◌∙◌, arith}
-use Rattle.std.proofs.lemmas.Bool.{cases_eq}
-use Rattle.std.proofs.lemmas.List.{get_or-set_same, get_or-set_other}
+use Rattle.std.proofs.Common.{◌≡◌, ℕ, ◌<◌, List, length, get_or, subst, arith}
 use Rattle.events.specs.Run.{Within, FullRun}
 use Rattle.events.specs.Graph.{PoRf}
 use Rattle.events.specs.declared.event.Event.{Event}
@@ -43,11 +41,3 @@ module _ (es : List Event) (full : FullRun es) (order : List ℕ) (ordered : Ord
       let x = subst (λ z. get_or places z 0 ≡ j) f (is j (omega arith)) in
       let y = subst (λ z. get_or places z 0 ≡ k) e (is k lt) in
       omega arith
-
-pub places_more : (order places : List ℕ) → EventNumbers order → (k : ℕ) → k < length order → PlacesIn k order places → get_or order k 0 < length places → (e : ℕ) → e ≡ get_or order k 0 → PlacesIn (k + 1) order (set places e k)
-places_more order places n k lt is high e same j less =
-    ⊎_elim
-    (λ here. subst (λ z. get_or (set places e k) (get_or order z 0) 0 ≡ z) (sym here) (subst (λ z. get_or (set places z k) (get_or order k 0) 0 ≡ k) (sym same) (get_or-set_same places (get_or order k 0) k 0 high)))
-    (λ before.
-    get_or-set_other places e (get_or order j 0) k 0 (λ f. n.apart j k (omega arith) lt (f ∙ same)) ∙ is j (omega arith))
-    (cases_eq j k)

@@ -5,6 +5,7 @@ use Rattle.events.specs.Run.{at, Within, Store, Write, Update, SameLocation, Ful
 use Rattle.events.specs.Graph.{Rf, PoRf}
 use Rattle.events.specs.declared.event.Event.{Event}
 use Rattle.events.specs.Relations.{Rel, ◌⁺, ◌？, one, more, Acyclic}
+use Rattle.events.specs.Lowest.{IsLowestPair}
 use Rattle.events.specs.Paths.{path_join}
 use Rattle.toposort.specs.Listing.{Ordered}
 use Rattle.models.specs.Models.{AtOneLocation}
@@ -17,9 +18,10 @@ use Rattle.verdicts.specs.declared.step.Step.{Step}
 use Rattle.verdicts.specs.declared.step.Sort.{Sort}
 use Rattle.verdicts.specs.declared.step.Sort.TheVariants as sort
 use Rattle.verdicts.proofs.Chains.{rf_once, write_reads_nothing, head_once, chain_more, chain_ordered, write_store, writer_store, writer_location, rf_path, write_or_update}
-use Rattle.chains.specs.Ends.{Top, Bottom, EndsAs, StepFor, NoStepBack, NoStepBackFrom}
+use Rattle.chains.specs.Ends.{Top, Bottom, EndsAs, StepFor, LowestStep, Crosses, LeadsBack, LeadsBackFrom}
 use Rattle.chains.specs.Lift.{Kept, KeptFor, LiftsBy, Lifts}
 use Rattle.chains.specs.Numbers.{HeadsOf, PlacesIn, StoreNumbers, WriterNumbers}
+use Rattle.chains.proofs.Lifts.{lowest_pair_same}
 use Rattle.chains.proofs.Orders.{place_rises}
 use Rattle.chains.proofs.Members.{store_or_not, load_or_not, update_load, heads_along, member_head, chain_of, head_member}
 
@@ -100,10 +102,17 @@ module _ (es : List Event) (full : FullRun es) where
           let two : TwoStores es a b = (c.2, d.2, optional_location a x k ∙ (at ∙ sym (optional_location b y m)), λ e. differs (head_once es g h b (subst (λ z. InChain es g z) e c) d)) in
           (differs, (a, b, c, d, ⊎_elim (λ e. inl (two, (x, k, inr (subst (λ z. hb x z) (sym e) l)))) (λ f. inr (y, (two, (x, k, l), f))) m))
 
+      lift_crosses : (hb : Rel) (g h x y : ℕ) → LiftsBy es hb heads heads x y g h → Crosses es hb g h x y
+      lift_crosses hb g h x y (l, p, q, differs) = (l, head_member es heads is full order ordered g x p, head_member es heads is full order ordered h y q)
+
+      crosses_lift : (hb : Rel) (g h x y : ℕ) → g ≢ h → Crosses es hb g h x y → LiftsBy es hb heads heads x y g h
+      crosses_lift hb g h x y differs (l, m, n) = (l, member_head es heads is g x m, member_head es heads is h y n, differs)
+
       -- both ends are there, and the step is one from the first chain to the second
-      pub step_found : (hb : Rel) (g h x y : ℕ) → LiftsBy es hb heads heads x y g h → (r : Option Step) → MatchOption r ((a b : ℕ) → Top es a x → ¬ Bottom es b y) (λ s. StepFor es x y s) →
-          MatchOption r (¬ ChainStep es hb g h) (λ s. (g ≢ h) × StepHolds IsBeforeOrRead es hb s × InChain es g s.from × InChain es h s.to)
-      step_found hb g h x y (l, p, q, differs) None no_ends =
+      pub step_found : (hb : Rel) (g h x y : ℕ) → IsLowestPair (λ v w. LiftsBy es hb heads heads v w g h) x y → (r : Option Step) → MatchOption r ((a b : ℕ) → Top es a x → ¬ Bottom es b y) (λ s. StepFor es x y s) →
+          MatchOption r (¬ ChainStep es hb g h) (λ s. (g ≢ h) × LowestStep es (Crosses es hb g h) s × StepHolds IsBeforeOrRead es hb s × InChain es g s.from × InChain es h s.to)
+      step_found hb g h x y low None no_ends =
+          let (l, p, q, differs) = low.second.is in
           let (a, c, k) = head_member es heads is full order ordered g x p in
           let (b, d, m) = head_member es heads is full order ordered h y q in
           let (t, top, _) = top_there a x (c.2) k in
@@ -111,9 +120,10 @@ module _ (es : List Event) (full : FullRun es) where
           (λ e. ⊎_elim (λ w. no_ends t b top (inr (e, subst (λ z. Write es z) e w))) (λ up. no_ends t (at es y).writer top (inl (update_load es y (subst (λ z. Update es z) e up), refl))) (write_or_update es b (d.2)))
           (λ f. no_ends t b top (inl f))
           m)
-      step_found hb g h x y (l, p, q, differs) (Some s) b =
+      step_found hb g h x y low (Some s) b =
+          let (l, p, q, differs) = low.second.is in
           let (c, d) = between_chains g h x y s p q b in
-          (differs, between_holds hb x y s l b (λ e. differs (head_once es g h s.to (subst (λ z. InChain es g z) e c) d)), c, d)
+          (differs, (x, y, lowest_pair_same _ (Crosses es hb g h) (lift_crosses hb g h) (λ v w. crosses_lift hb g h v w differs) x y low, b), between_holds hb x y s l b (λ e. differs (head_once es g h s.to (subst (λ z. InChain es g z) e c) d)), c, d)
 
       pub lifts_chain_step : (hb : Rel) (g h : ℕ) → Lifts es hb heads heads g h → ChainStep es hb g h
       lifts_chain_step hb g h (x, (y, (l, p, q, differs))) = lifted hb g h x y l p q differs
@@ -135,8 +145,8 @@ module _ (es : List Event) (full : FullRun es) where
         back_places a b (p, s) = (heads_along es heads is b a p, place_rises es full order ordered places placed b a (s.0) (rf_path es b a p))
 
         -- no step back, where the one that there is leads to another chain or forward
-        pub none_back : (hb : Rel) (x y : ℕ) (s : Step) → StepFor es x y s → (get_or heads s.from 0 ≡ get_or heads s.to 0 → ¬ (get_or places s.to 0 < get_or places s.from 0)) → NoStepBack es hb x y
-        none_back hb x y s b not_back l t c back =
+        pub none_back : (hb : Rel) (x y : ℕ) (s : Step) → StepFor es x y s → (get_or heads s.from 0 ≡ get_or heads s.to 0 → ¬ (get_or places s.to 0 < get_or places s.from 0)) → ¬ LeadsBack es hb x y
+        none_back hb x y s b not_back (t, (l, c, back)) =
             let (e, f) = between_once x y s t b c in
             let (g, p) = back_places t.from t.to back in
             not_back (subst (λ z. get_or heads z 0 ≡ get_or heads s.to 0) (sym e) (subst (λ z. get_or heads t.from 0 ≡ get_or heads z 0) (sym f) g))
@@ -157,21 +167,27 @@ module _ (es : List Event) (full : FullRun es) where
                   (chain_ordered es full single (get_or heads s.to 0) s.from s.to c d),
             )
 
-  -- what comes to a step is an event of the run
-  pub none_all : (hb : Rel) (k : ℕ) → length es < k → ((x : ℕ) → x < k → NoStepBackFrom es hb x) → (x y : ℕ) → NoStepBack es hb x y
-  none_all hb k all none x y l s b =
-      let w : Within es x = ⊎_elim (λ (_, st). st.0) (λ (f, _). f.0.0) (b.from) in
-      let high = w.1 in
-      none x (omega arith) y l s b
+  -- what comes to a step back are events of the run
+  pub back_within : (hb : Rel) (x y : ℕ) → LeadsBack es hb x y → Within es x × Within es y
+  back_within hb x y (s, (l, b, back)) = (⊎_elim (λ (_, st). st.0) (λ (f, _). f.0.0) (b.from), ⊎_elim (λ (f, _). f.0.0) (λ (_, w, _). w.0) (b.to))
+
+  pub none_all : (hb : Rel) (k : ℕ) → length es < k → ((x : ℕ) → x < k → ¬ LeadsBackFrom es hb x) → (x y : ℕ) → ¬ LeadsBack es hb x y
+  none_all hb k all none x y back = let high = (back_within hb x y back).0.1 in none x (omega arith) (y, back)
 
   -- where no event before another comes to a step back, there is none
-  module _ (causal : Acyclic (PoRf es)) (hb : Rel) (none : (x y : ℕ) → NoStepBack es hb x y) where
+  module _ (causal : Acyclic (PoRf es)) (hb : Rel) (none : (x y : ℕ) → ¬ LeadsBack es hb x y) where
     -- b is the end of a step to y, from a or from what comes after it in the chain
     step_to : (a b x y : ℕ) (t : Sort) → AtOneLocation es hb x y → (Rf es ？) a x → EndsAs es t b y → (Rf es ⁺) b a → Store es a → ⊥
     step_to a b x y t l k e p s =
         let (c, top, after) = top_there a x s k in
-        none x y l (record { from = c; to = b; sort = t }) (record { from = top; to = e })
-        (⊎_elim (λ same. subst (λ z. (Rf es ⁺) b z) same p) (λ q. path_join p q) after, top_store c x top)
+        none x y (
+          record { from = c; to = b; sort = t },
+          (
+            l,
+            record { from = top; to = e },
+            (⊎_elim (λ same. subst (λ z. (Rf es ⁺) b z) same p) (λ q. path_join p q) after, top_store c x top),
+          ),
+        )
 
     pub no_back : NoBack es hb
     no_back a b (inl ((s, t, there, differs), (x, k, inl e))) (p, u) =

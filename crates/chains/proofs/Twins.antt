@@ -8,6 +8,7 @@ use Rattle.events.specs.Graph.{Rf}
 use Rattle.events.specs.declared.event.Event.{Event}
 use Rattle.verdicts.specs.Absent.{NoTwins}
 use Rattle.verdicts.proofs.Chains.{rf_once}
+use Rattle.chains.specs.Twins.{LowestTwins}
 
 -- of the updates below k, for each event the one that reads from it
 pub record Readers (es : List Event) (k : ℕ) (readers : List ℕ) : Type 0 where
@@ -38,6 +39,22 @@ module _ (es : List Event) (k : ℕ) (readers : List ℕ) (r : Readers es k read
             let (less, u, g) = r.back v (λ z. some (there ∙ z)) in
             (omega arith, subst (λ z. Update es z) (sym there) u, subst (λ z. Rf es v z) (sym there) g))
             (cases_eq v w);
+      }
+
+  -- an update whose writer has a reader has the first twin, and none before it has one
+  pub lowest_twins : (w : ℕ) → Update es k → Rf es w k → get_or readers w 0 ≢ 0 → LowestTwins es (get_or readers w 0) k
+  lowest_twins w is f some =
+      let (less, u, g) = r.back w some in
+      record {
+        first = record {
+          is = (get_or readers w 0, (less, u, is, (w, g, f)));
+          first = λ v low (t, (lt, a, b, (z, p, q))). let e = r.known z t (omega arith) a p in let d = r.known z v low b q in omega arith;
+        };
+        second = record {
+          is = (less, u, is, (w, g, f));
+          first = λ t low (lt, a, b, (z, p, q)).
+              let e = subst (λ y. get_or readers y 0 ≡ t) (rf_once es z w k q f) (r.known z t lt a p) in omega arith;
+        };
       }
 
 pub readers_none : (es : List Event) (readers : List ℕ) → length readers ≡ max_events + 1 → ((w : ℕ) → get_or readers w 0 ≡ 0) → Readers es 1 readers

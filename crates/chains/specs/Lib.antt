@@ -1,3 +1,4 @@
 pub mod Numbers
 pub mod Ends
+pub mod Twins
 pub mod Lift

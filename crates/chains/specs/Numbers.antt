@@ -4,6 +4,7 @@ use Rattle.events.specs.Limits.{max_events}
 use Rattle.events.specs.Run.{Load, Store, Write}
 use Rattle.events.specs.Graph.{Rf}
 use Rattle.events.specs.declared.event.Event.{Event}
+use Rattle.toposort.specs.Listing.{Placed}
 
 -- h is the head of x, if those of the others are as heads says: a write heads its own chain, a load has the head of its writer, and
 -- any other number has none
@@ -18,6 +19,10 @@ HeadsOf es heads = (x : ℕ) → NextHead es heads x (slice_index heads x)
 -- each number stands at the place that is kept for it
 abbrev pub PlacesIn : ℕ → List ℕ → List ℕ → Type 0
 PlacesIn n order places = (k : ℕ) → k < n → slice_index places (slice_index order k) ≡ k
+
+-- nothing else has changed since: what is not among the first n has the place that it had
+abbrev pub OthersKept : ℕ → List ℕ → List ℕ → List ℕ → Type 0
+OthersKept n order old new = (x : ℕ) → ¬ Placed order n x → slice_index new x ≡ slice_index old x
 
 -- different numbers of events
 pub record EventNumbers (order : List ℕ) : Type 0 where

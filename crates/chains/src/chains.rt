@@ -3,8 +3,8 @@ ghost use Rattle.std.specs.Prelude.{◌≡◌, length, MatchResult};
 ghost use Rattle.events.specs.Graph.{PoRf};
 ghost use Rattle.toposort.specs.Listing.{Ordered};
 ghost use Rattle.verdicts.specs.Absent.{NoTwins};
-ghost use Rattle.verdicts.specs.Violations.{AreTwins};
 ghost use Rattle.chains.specs.Numbers.{HeadsOf, PlacesIn};
+ghost use Rattle.chains.specs.Twins.{LowestTwins};
 
 use crate::fill::{fill_heads, fill_places, twins};
 use causality::causal::Causal;
@@ -31,11 +31,12 @@ pub struct Chains<'a, E: Execution> {
 }
 
 impl<'a, E: Execution> Chains<'a, E> {
-    /// The chains of a run, or two updates with one writer, the lower number first.
+    /// The chains of a run, or the first two updates with one writer: the second is the lowest that can be, and the first comes
+    /// before it.
     pub fn of(causal: &'a Causal<'a, E>) -> Result<Chains<'a, E>, (u16, u16)>
         ensures { MatchResult result
             (λ c. (c.run.now ≡ causal.now.run.now) × NoTwins (E.Execution.events causal.now.run.now))
-            (λ t. AreTwins (E.Execution.events causal.now.run.now) t.0 t.1) }
+            (λ t. LowestTwins (E.Execution.events causal.now.run.now) t.0 t.1) }
     {
         let run = causal.run();
         let order = causal.causal_order();

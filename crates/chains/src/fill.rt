@@ -4,8 +4,8 @@ ghost use Rattle.events.specs.Limits.{max_events};
 ghost use Rattle.events.specs.Graph.{PoRf};
 ghost use Rattle.toposort.specs.Listing.{Ordered};
 ghost use Rattle.verdicts.specs.Absent.{NoTwins};
-ghost use Rattle.verdicts.specs.Violations.{AreTwins};
-ghost use Rattle.chains.specs.Numbers.{HeadsOf, NextHead, PlacesIn, EventNumbers};
+ghost use Rattle.chains.specs.Numbers.{HeadsOf, NextHead, PlacesIn, OthersKept, EventNumbers};
+ghost use Rattle.chains.specs.Twins.{LowestTwins};
 
 use crate::chains::Numbers;
 use events::limits::MAX_EVENTS;
@@ -13,11 +13,11 @@ use executions::execution::Execution;
 use executions::kinds::{is_store, is_update};
 use executions::relations::writer;
 
-// Two updates with one writer, the lower number first.
+// The first two updates with one writer: the second is the lowest that can be, and the first comes before it.
 pub(crate) fn twins<E: Execution>(run: &E) -> Option<(u16, u16)>
     ensures { MatchOption result
         (NoTwins (E.Execution.events run.now))
-        (λ t. AreTwins (E.Execution.events run.now) t.0 t.1) }
+        (λ t. LowestTwins (E.Execution.events run.now) t.0 t.1) }
 {
     // For each event the update that reads from it, among those that were looked at.
     let mut readers = [0; MAX_EVENTS + 1];
@@ -59,10 +59,11 @@ pub(crate) fn fill_heads<E: Execution>(run: &E, order: &[u16], heads: &mut Numbe
     }
 }
 
-// Puts into the place of each number of the order where it stands there. The other places are left open: nobody reads them.
+// Puts into the place of each number of the order where it stands there. The other places stay as they were.
 pub(crate) fn fill_places(order: &[u16], places: &mut Numbers)
     requires { EventNumbers order.now }
-    ensures { PlacesIn (length order.now) order.now places.new }
+    ensures placed { PlacesIn (length order.now) order.now places.new }
+    ensures others { OthersKept (length order.now) order.now places.old places.new }
 {
     for k in 0..order.len() {
         places[usize::from(order[k])] = k as u16;

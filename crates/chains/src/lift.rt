@@ -1,5 +1,6 @@
 //! Happens-before within one location, lifted from events to numbers that are kept for them.
 ghost use Rattle.std.specs.Prelude.{◌≡◌, ◌↔◌, ◌⊎◌, ℕ, IsTrue, slice_index, MatchOption};
+ghost use Rattle.events.specs.Lowest.{IsLowest, IsLowestPair};
 ghost use Rattle.relation.specs.Pairs.{has, Pairs};
 ghost use Rattle.chains.specs.Lift.{KeptFor, LiftsBy, LiftsFrom, Lifts};
 
@@ -62,11 +63,11 @@ impl<'a, E: Execution> Lift<'a, E> {
         }
     }
 
-    // An event before which x leads from a to b.
+    // The lowest event before which x leads from a to b.
     fn find_from(&self, x: usize, a: usize, b: usize) -> Option<usize>
         ensures { MatchOption result
             (¬ LiftsFrom (E.Execution.events self.now.run.now) (Pairs self.now.hb.now) self.now.from.now self.now.to.now x a b)
-            (λ y. LiftsBy (E.Execution.events self.now.run.now) (Pairs self.now.hb.now) self.now.from.now self.now.to.now x y a b) }
+            (λ y. IsLowest (λ z. LiftsBy (E.Execution.events self.now.run.now) (Pairs self.now.hb.now) self.now.from.now self.now.to.now x z a b) y) }
     {
         for y in 1..self.run.count() + 1 {
             if self.lifts(x, y, a, b) {
@@ -76,11 +77,11 @@ impl<'a, E: Execution> Lift<'a, E> {
         None
     }
 
-    // Two events of which the first, before the second, leads from a to b.
+    // The lowest two events of which the first, before the second, leads from a to b.
     pub(crate) fn find(&self, a: usize, b: usize) -> Option<(usize, usize)>
         ensures { MatchOption result
             (¬ Lifts (E.Execution.events self.now.run.now) (Pairs self.now.hb.now) self.now.from.now self.now.to.now a b)
-            (λ p. LiftsBy (E.Execution.events self.now.run.now) (Pairs self.now.hb.now) self.now.from.now self.now.to.now p.0 p.1 a b) }
+            (λ p. IsLowestPair (λ x y. LiftsBy (E.Execution.events self.now.run.now) (Pairs self.now.hb.now) self.now.from.now self.now.to.now x y a b) p.0 p.1) }
     {
         for x in 1..self.run.count() + 1 {
             // Each event has one number, so that the searches for all the steps of a cycle look at each two events at most once.

@@ -1,5 +1,8 @@
 //! The read steps of a run.
 ghost use Rattle.std.specs.Prelude.{◌≡◌, ◌↔◌, ℕ, IsTrue, slice_index, MatchOption};
+ghost use Rattle.events.specs.Graph.{Rf};
+ghost use Rattle.events.specs.Lowest.{IsLowest};
+ghost use Rattle.events.specs.Relations.{◌⨾◌, ◌？};
 ghost use Rattle.relation.specs.Pairs.{has, Pairs};
 ghost use Rattle.verdicts.specs.Steps.{ReadStep, ReadSteps};
 ghost use Rattle.chains.specs.Numbers.{StoreNumbers, WriterNumbers};
@@ -8,8 +11,8 @@ use crate::chains::Numbers;
 use crate::lift::Lift;
 use events::limits::MAX_EVENTS;
 use executions::execution::Execution;
-use executions::kinds::is_store;
-use executions::relations::writer;
+use executions::kinds::{is_store, location};
+use executions::relations::{rf, writer};
 use relation::relation::Relation;
 
 /// A run whose read steps are wanted.
@@ -46,6 +49,34 @@ fn fill_writers<E: Execution>(run: &E, writers: &mut Numbers)
             writers[x] = w as u16;
         }
     }
+}
+
+// Whether a, or a load that reads from it, happens before r.
+fn reaches<E: Execution>(run: &E, hb: &Relation, a: usize, r: usize) -> bool
+    ensures { IsTrue result ↔ (Rf (E.Execution.events run.now) ？ ⨾ Pairs hb.now) a r }
+{
+    if hb.contains(a, r) {
+        return true;
+    }
+    for x in 1..run.count() + 1 {
+        if rf(run, a, x) && hb.contains(x, r) {
+            return true;
+        }
+    }
+    false
+}
+
+// Whether a read step leads from a to b through the load r. Each load reads from one store, so that the searches for all the steps
+// of a cycle look at each two events at most once.
+fn is_read_step<E: Execution>(run: &E, hb: &Relation, r: usize, a: usize, b: usize) -> bool
+    ensures { IsTrue result ↔ ReadStep (E.Execution.events run.now) (Pairs hb.now) r a b }
+{
+    rf(run, b, r)
+        && is_store(run, a)
+        && is_store(run, b)
+        && location(run, a) == location(run, b)
+        && a != b
+        && reaches(run, hb, a, r)
 }
 
 impl<'a, E: Execution> Reads<'a, E> {
@@ -93,30 +124,17 @@ impl<'a, E: Execution> Reads<'a, E> {
         steps
     }
 
-    /// A load through which a read step leads from a to b.
+    /// The lowest load through which a read step leads from a to b.
     pub fn load(&self, hb: &Relation, a: usize, b: usize) -> Option<usize>
         ensures { MatchOption result
             (¬ ReadSteps (E.Execution.events self.now.run.now) (Pairs hb.now) a b)
-            (λ r. ReadStep (E.Execution.events self.now.run.now) (Pairs hb.now) r a b) }
+            (λ r. IsLowest (λ l. ReadStep (E.Execution.events self.now.run.now) (Pairs hb.now) l a b) r) }
     {
-        let stored = Lift {
-            run: self.run,
-            hb,
-            from: &self.stores,
-            to: &self.writers,
-        };
-        if let Some((_, load)) = stored.find(a, b) {
-            return Some(load);
+        for r in 1..self.run.count() + 1 {
+            if is_read_step(self.run, hb, r, a, b) {
+                return Some(r);
+            }
         }
-        let read = Lift {
-            run: self.run,
-            hb,
-            from: &self.writers,
-            to: &self.writers,
-        };
-        match read.find(a, b) {
-            Some((_, load)) => Some(load),
-            None => None,
-        }
+        None
     }
 }

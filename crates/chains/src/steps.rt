@@ -5,7 +5,8 @@ ghost use Rattle.verdicts.specs.Absent.{NoBack};
 ghost use Rattle.verdicts.specs.Chains.{InChain};
 ghost use Rattle.verdicts.specs.Steps.{ChainStep};
 ghost use Rattle.verdicts.specs.Violations.{StepHolds, IsBeforeOrRead, StepsBack};
-ghost use Rattle.chains.specs.Ends.{NoStepBack, NoStepBackFrom};
+ghost use Rattle.events.specs.Lowest.{IsLowest};
+ghost use Rattle.chains.specs.Ends.{StepFor, LowestStep, Crosses, BackBy, LeadsBack, LeadsBackFrom};
 
 use crate::chains::Chains;
 use crate::ends::step_between;
@@ -31,11 +32,12 @@ impl<'a, E: Execution> Chains<'a, E> {
         steps
     }
 
-    /// A step from the chain that g heads to another, that h heads.
+    /// A step from the chain that g heads to another, that h heads: that of the lowest two events that lead there, by the first of
+    /// them, then by the second.
     pub fn chain_step(&self, hb: &Relation, g: usize, h: usize) -> Option<Step>
         ensures { MatchOption result
             (¬ ChainStep (E.Execution.events self.now.run.now) (Pairs hb.now) g h)
-            (λ s. (g ≢ h) × StepHolds IsBeforeOrRead (E.Execution.events self.now.run.now) (Pairs hb.now) s × InChain (E.Execution.events self.now.run.now) g s.from × InChain (E.Execution.events self.now.run.now) h s.to) }
+            (λ s. (g ≢ h) × LowestStep (E.Execution.events self.now.run.now) (Crosses (E.Execution.events self.now.run.now) (Pairs hb.now) g h) s × StepHolds IsBeforeOrRead (E.Execution.events self.now.run.now) (Pairs hb.now) s × InChain (E.Execution.events self.now.run.now) g s.from × InChain (E.Execution.events self.now.run.now) h s.to) }
     {
         let lift = Lift {
             run: self.run,
@@ -63,8 +65,8 @@ impl<'a, E: Execution> Chains<'a, E> {
     // The step that x before y amounts to, if it leads back in a chain.
     fn back_between(&self, hb: &Relation, x: usize, y: usize) -> Option<Step>
         ensures { MatchOption result
-            (NoStepBack (E.Execution.events self.now.run.now) (Pairs hb.now) x y)
-            (λ s. StepsBack (E.Execution.events self.now.run.now) (Pairs hb.now) s) }
+            (¬ LeadsBack (E.Execution.events self.now.run.now) (Pairs hb.now) x y)
+            (λ s. BackBy (E.Execution.events self.now.run.now) (Pairs hb.now) x y s × StepsBack (E.Execution.events self.now.run.now) (Pairs hb.now) s) }
     {
         if !hb.contains(x, y) || location(self.run, x) != location(self.run, y) {
             return None;
@@ -79,11 +81,11 @@ impl<'a, E: Execution> Chains<'a, E> {
         }
     }
 
-    // A step back in a chain that x before some event amounts to.
+    // The step back in a chain that x before the lowest such event amounts to.
     fn back_from(&self, hb: &Relation, x: usize) -> Option<Step>
         ensures { MatchOption result
-            (NoStepBackFrom (E.Execution.events self.now.run.now) (Pairs hb.now) x)
-            (λ s. StepsBack (E.Execution.events self.now.run.now) (Pairs hb.now) s) }
+            (¬ LeadsBackFrom (E.Execution.events self.now.run.now) (Pairs hb.now) x)
+            (λ s. ((y : ℕ) × IsLowest (LeadsBack (E.Execution.events self.now.run.now) (Pairs hb.now) x) y × StepFor (E.Execution.events self.now.run.now) x y s) × StepsBack (E.Execution.events self.now.run.now) (Pairs hb.now) s) }
     {
         for y in 1..self.run.count() + 1 {
             if let Some(step) = self.back_between(hb, x, y) {
@@ -93,11 +95,12 @@ impl<'a, E: Execution> Chains<'a, E> {
         None
     }
 
-    /// A step from a store to one before it in its chain.
+    /// A step from a store to one before it in its chain: that of the lowest two events that lead back, by the first of them, then
+    /// by the second.
     pub fn step_back(&self, hb: &Relation) -> Option<Step>
         ensures { MatchOption result
             (NoBack (E.Execution.events self.now.run.now) (Pairs hb.now))
-            (λ s. StepsBack (E.Execution.events self.now.run.now) (Pairs hb.now) s) }
+            (λ s. LowestStep (E.Execution.events self.now.run.now) (LeadsBack (E.Execution.events self.now.run.now) (Pairs hb.now)) s × StepsBack (E.Execution.events self.now.run.now) (Pairs hb.now) s) }
     {
         for x in 1..self.run.count() + 1 {
             if let Some(step) = self.back_from(hb, x) {

@@ -5,5 +5,6 @@ pub mod Raw
 pub mod Run
 pub mod Relations
 pub mod Paths
+pub mod Lowest
 pub mod Graph
 pub mod Text

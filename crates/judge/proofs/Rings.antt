@@ -93,10 +93,10 @@ module _ (es : List Event) (full : FullRun es) (k : ℕ) (cycle : List ℕ) (fit
       ring_of (length es) k E cycle fits is strict SameEvent Exact (λ a x y p q. p ∙ sym q) (λ a b x y p q e. sym p ∙ (e ∙ q)) Holds ss room shown
 
   pub causal_ring : ((a : ℕ) → ¬ PoRf es a a) → IsCycle (length es) (PoRf es) (take k cycle) → ShowsEach (CausalStep es) cycle k ss → Cycle SameEvent (StepHolds IsPoOrRf es (PoRf es)) (take k ss)
-  causal_ring strict is shown = exact_ring (PoRf es) (StepHolds IsPoOrRf es (PoRf es)) strict is shown
+  causal_ring strict is shown = exact_ring (PoRf es) (StepHolds IsPoOrRf es (PoRf es)) strict is (λ i lt. let (from, to, holds, _) = shown i lt in (from, to, holds))
 
   pub event_ring : (hb : Rel) → ((a : ℕ) → ¬ hb a a) → IsCycle (length es) (hb ∪ ReadSteps es hb) (take k cycle) → ShowsEach (EventStep es hb) cycle k ss → Cycle SameEvent (StepHolds IsHbOrRead es hb) (take k ss)
-  event_ring hb strict is shown = exact_ring (hb ∪ ReadSteps es hb) (StepHolds IsHbOrRead es hb) (λ a. ⊎_elim (strict a) (λ (r, s). s.0.3 refl)) is shown
+  event_ring hb strict is shown = exact_ring (hb ∪ ReadSteps es hb) (StepHolds IsHbOrRead es hb) (λ a. ⊎_elim (strict a) (λ (r, s). s.0.3 refl)) is (λ i lt. let (from, to, holds, _) = shown i lt in (from, to, holds))
 
   module _ (hb : Rel) (is : IsCycle (length es) (ChainStep es hb) (take k cycle)) (shown : ShowsEach (ChainToChain es hb) cycle k ss) where
     -- a step between chains stays at its location
@@ -117,4 +117,4 @@ module _ (es : List Event) (full : FullRun es) (k : ℕ) (cycle : List ℕ) (fit
         ring_of (length es) k (ChainStep es hb) cycle fits is (λ a s. s.0 refl) (SameChain es) (InChain es) (λ a x y p q. (a, p, q))
         (λ a b x y p q (g, r, s). head_once es a g x p r ∙ head_once es g b y s q)
         (AtLocation es hb (at es (get_or cycle 0 0)).location) ss room
-        (λ i lt. let (p, q, h) = shown i lt in (p, q, (h, sym (chain_location es full (get_or cycle i 0) (step_at ss i).from p) ∙ head_location i lt)))
+        (λ i lt. let (p, q, h, _) = shown i lt in (p, q, (h, sym (chain_location es full (get_or cycle i 0) (step_at ss i).from p) ∙ head_location i lt)))

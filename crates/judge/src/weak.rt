@@ -1,10 +1,10 @@
 //! What breaks read coherence at weak scope.
 ghost use Rattle.std.specs.Prelude.{◌↔◌, IsTrue, MatchOption};
-ghost use Rattle.events.specs.Graph.{Rf};
+ghost use Rattle.events.specs.Lowest.{IsLowest};
 ghost use Rattle.relation.specs.Pairs.{Pairs};
 ghost use Rattle.verdicts.specs.Absent.{NoWeak};
 ghost use Rattle.verdicts.specs.Steps.{Overwrites};
-ghost use Rattle.judge.specs.Search.{NoneOverwrites};
+ghost use Rattle.judge.specs.Search.{NoneOverwrites, LowestWeak};
 
 use executions::execution::Execution;
 use executions::kinds::{is_store, location};
@@ -21,11 +21,11 @@ fn overwrites<E: Execution>(run: &E, hb: &Relation, w: usize, v: usize, r: usize
         && location(run, w) == location(run, v)
 }
 
-// A store that comes in happens-before between the load r and its writer.
+// The lowest store that comes in happens-before between the load r and its writer w.
 fn overwriter<E: Execution>(run: &E, hb: &Relation, w: usize, r: usize) -> Option<usize>
     ensures { MatchOption result
         (NoneOverwrites (E.Execution.events run.now) (Pairs hb.now) w r)
-        (λ v. Overwrites (E.Execution.events run.now) (Pairs hb.now) w v r) }
+        (λ v. IsLowest (λ u. Overwrites (E.Execution.events run.now) (Pairs hb.now) w u r) v) }
 {
     for v in 1..run.count() + 1 {
         if overwrites(run, hb, w, v, r) {
@@ -35,11 +35,12 @@ fn overwriter<E: Execution>(run: &E, hb: &Relation, w: usize, r: usize) -> Optio
     None
 }
 
-// A store, another of its location after it, and a load after that which reads from the first.
+// A store, another of its location after it, and a load after that which reads from the first: of the lowest such load the lowest
+// store between.
 pub(crate) fn weak_violation<E: Execution>(run: &E, hb: &Relation) -> Option<(u16, u16, u16)>
     ensures { MatchOption result
         (NoWeak (E.Execution.events run.now) (Pairs hb.now))
-        (λ t. Rf (E.Execution.events run.now) t.0 t.2 × Overwrites (E.Execution.events run.now) (Pairs hb.now) t.0 t.1 t.2) }
+        (λ t. LowestWeak (E.Execution.events run.now) (Pairs hb.now) t.0 t.1 t.2) }
 {
     for r in 1..run.count() + 1 {
         let Some(w) = writer(run, r) else {

@@ -3,8 +3,7 @@ ghost use Rattle.std.specs.Prelude.{◌≤◌, length, replicate, MatchResult};
 ghost use Rattle.events.specs.Limits.{max_events};
 ghost use Rattle.events.specs.Relations.{◌∪◌};
 ghost use Rattle.relation.specs.Pairs.{Pairs};
-ghost use Rattle.toposort.specs.Answer.{Writes, Shows};
-ghost use Rattle.toposort.specs.declared.search.Found.TheVariants.{Cycle as CycleOf};
+ghost use Rattle.toposort.specs.Answer.{Writes, WritesAnyCycle};
 ghost use Rattle.verdicts.specs.Layings.{LaysChains, LaysEvents};
 ghost use Rattle.verdicts.specs.Steps.{ReadSteps, ChainStep};
 
@@ -19,11 +18,11 @@ use relation::relation::Relation;
 use toposort::search::{Cycle, order_or_cycle};
 
 /// Lays the chains of a run: location by rising location, next the lowest-headed chain into which no step leads from another that
-/// is not laid; or brings a cycle of chains, by their heads.
+/// is not laid; or brings any cycle of chains, by their heads.
 pub fn lay_chains<E: Execution>(chains: &Chains<E>, hb: &Relation) -> Result<Laid, Cycle>
     ensures { MatchResult result
         (λ l. (l.count ≤ length (E.Execution.events chains.now.run.now)) × Writes l.count (LaysChains (E.Execution.events chains.now.run.now) (Pairs hb.now)) (replicate max_events 0) l.stores)
-        (λ c. Shows (length (E.Execution.events chains.now.run.now)) (ChainStep (E.Execution.events chains.now.run.now) (Pairs hb.now)) (replicate max_events 0) c.nodes (CycleOf c.length)) }
+        (λ c. WritesAnyCycle c.length (length (E.Execution.events chains.now.run.now)) (ChainStep (E.Execution.events chains.now.run.now) (Pairs hb.now)) (replicate max_events 0) c.nodes) }
 {
     let run = chains.run();
     let steps = chains.chain_steps(hb);
@@ -43,11 +42,11 @@ pub fn lay_chains<E: Execution>(chains: &Chains<E>, hb: &Relation) -> Result<Lai
 }
 
 /// Lays all events of a run along happens-before and read steps, lowest ready first, and reads the stores of each location off; or
-/// brings a cycle of the two.
+/// brings any cycle of the two.
 pub fn lay_events<E: Execution>(reads: &Reads<E>, hb: &Relation) -> Result<Laid, Cycle>
     ensures { MatchResult result
         (λ l. (l.count ≤ length (E.Execution.events reads.now.run.now)) × Writes l.count (LaysEvents (E.Execution.events reads.now.run.now) (Pairs hb.now)) (replicate max_events 0) l.stores)
-        (λ c. Shows (length (E.Execution.events reads.now.run.now)) (Pairs hb.now ∪ ReadSteps (E.Execution.events reads.now.run.now) (Pairs hb.now)) (replicate max_events 0) c.nodes (CycleOf c.length)) }
+        (λ c. WritesAnyCycle c.length (length (E.Execution.events reads.now.run.now)) (Pairs hb.now ∪ ReadSteps (E.Execution.events reads.now.run.now) (Pairs hb.now)) (replicate max_events 0) c.nodes) }
 {
     let run = reads.run();
     let steps = reads.steps(hb);

@@ -1,10 +1,9 @@
 -- A listing or a cycle of one graph is one of another that has the same edges.
 use Rattle.std.proofs.Common.{◌↔◌, inl, inr, ⊎_elim, ℕ, List}
 use Rattle.events.specs.Relations.{Rel, ◌∪◌}
-use Rattle.toposort.specs.Answer.{Shows}
+use Rattle.toposort.specs.Answer.{WritesAnyCycle}
 use Rattle.toposort.specs.Listing.{Ready, Ordered}
 use Rattle.toposort.specs.Cycle.{IsCycle}
-use Rattle.toposort.specs.declared.search.Found.TheVariants.{Cycle}
 
 abbrev pub SamePairs : Rel → Rel → Type 0
 SamePairs E F = (a b : ℕ) → E a b ↔ F a b
@@ -39,5 +38,5 @@ module _ (n : ℕ) (E F : Rel) (same : SamePairs E F) where
         closed = (same _ _).0 is.closed;
       }
 
-  pub shown_same : (old new : List ℕ) (k : ℕ) → Shows n E old new (Cycle k) → Shows n F old new (Cycle k)
+  pub shown_same : (old new : List ℕ) (k : ℕ) → WritesAnyCycle k n E old new → WritesAnyCycle k n F old new
   shown_same old new k (few, (is, rest)) = (few, (cycle_same _ is, rest))

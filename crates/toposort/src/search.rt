@@ -3,10 +3,9 @@ ghost use Rattle.std.specs.Prelude.{◌↔◌, ◌≤◌, IsTrue, length, replic
 ghost use Rattle.events.specs.Limits.{max_events};
 ghost use Rattle.events.specs.Relations.{Acyclic};
 ghost use Rattle.toposort.specs.Graph.{Between};
-ghost use Rattle.toposort.specs.Answer.{Answers, Shows, Writes};
+ghost use Rattle.toposort.specs.Answer.{Answers, Shows, Writes, WritesAnyCycle};
 ghost use Rattle.toposort.specs.Cycle.{Tells, TwoOrMore};
 ghost use Rattle.toposort.specs.Listing.{Ordered, EveryNode, OneListing, EdgesForward};
-ghost use Rattle.toposort.specs.declared.search.Found.TheVariants.{Cycle as CycleOf};
 
 use crate::cycle::write_cycle;
 use crate::graph::Graph;
@@ -58,8 +57,9 @@ fn search<G: Graph>(graph: &G, listing: &mut [u16]) -> Found
 }
 
 /// Writes a topological order of the nodes into the first places of the listing, or a cycle where there is none. The other
-/// places stay as they were, and all of them where the listing is too short. Which cycle it is, and where it begins, is left
-/// open. Besides the answer, the contract has the theorems about listings and cycles, in clauses that do not look at the answer.
+/// places stay as they were, and all of them where the listing is too short. Which cycle it is, and where it begins, is the choice
+/// of the search. Besides the answer, the contract has the theorems about listings and cycles, in clauses that do not look at the
+/// answer.
 pub fn toposort<G: Graph>(graph: &G, listing: &mut [u16]) -> Result<Found, ShortListing>
     ensures answers { Answers (G.size graph.now) (G.edge graph.now) listing.old listing.new result }
     ensures every { EveryNode (G.size graph.now) (G.edge graph.now) }
@@ -75,7 +75,7 @@ pub fn toposort<G: Graph>(graph: &G, listing: &mut [u16]) -> Result<Found, Short
 }
 
 /// Different nodes, each with an edge to the next, and the last with one to the first: so many in the first places, with 0 in the
-/// others. Which cycle it is, and where it begins, is left open.
+/// others. Which cycle it is, and where it begins, is the choice of the search.
 #[derive(Drop)]
 pub struct Cycle {
     pub nodes: [u16; MAX_EVENTS],
@@ -86,7 +86,7 @@ pub struct Cycle {
 pub fn order_or_cycle<G: Graph>(graph: &G) -> Result<[u16; MAX_EVENTS], Cycle>
     ensures { MatchResult result
         (λ listing. Writes (G.size graph.now) (Ordered (G.size graph.now) (G.edge graph.now)) (replicate max_events 0) listing)
-        (λ c. Shows (G.size graph.now) (G.edge graph.now) (replicate max_events 0) c.nodes (CycleOf c.length)) }
+        (λ c. WritesAnyCycle c.length (G.size graph.now) (G.edge graph.now) (replicate max_events 0) c.nodes) }
 {
     let mut listing = [0; MAX_EVENTS];
     match toposort(graph, &mut listing) {

@@ -1,7 +1,7 @@
 use Rattle.std.proofs.Common.{refl, arith, rules}
 use Rattle.models.proofs.Marks.{same_everywhere}
 use Rattle.models.proofs.Walks.{rf_below}
-use Rattle.chains.proofs.Twins.{readers_none, readers_more, readers_all}
+use Rattle.chains.proofs.Twins.{readers_none, readers_more, readers_all, lowest_twins}
 use Rattle.chains.proofs.fill.twins.Goals as goal
 
 pub loop-u-init : goal.loop-u-init
@@ -24,6 +24,9 @@ offset_bounds-readers-w-in-loop-u g c = let low = rf_below _ _ _ (g.met.E.Execut
 
 pub bounds-readers-w-in-loop-u : goal.bounds-readers-w-in-loop-u
 bounds-readers-w-in-loop-u g c = let low = rf_below _ _ _ (g.met.E.Execution.full _) (c.in-Some.ensures) in omega arith
+
+pub returns-then-readers-w-ne0 : goal.returns-then-readers-w-ne0
+returns-then-readers-w-ne0 g c = lowest_twins _ _ _ (c.loop-u.invariant) _ (c.if-not-is_update.ensures.0 refl) (c.in-Some.ensures) (c.if-readers-w-ne0.true)
 
 pub loop-u-preserved : goal.loop-u-preserved
 loop-u-preserved g c =

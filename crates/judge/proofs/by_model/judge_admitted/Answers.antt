@@ -18,4 +18,4 @@ pub returns-in-Err-of : goal.returns-in-Err-of
 returns-in-Err-of g c =
     let full = g.met.E.Execution.full (c.args.run.now) in
     says_twin _ full _ (g.met.R.Rule.joined (c.args.rule.now) _ full) _ (c.requires.1) _ _ refl _ _ (c.in-Ok.ensures.1) _ _
-    (subst (λ r. AreTwins (g.E.Execution.events r) (c.in-Err-of.u) (c.in-Err-of.v)) (c.in-Ok.ensures.0) (c.in-Err-of.ensures)) refl
+    (subst (λ r. AreTwins (g.E.Execution.events r) (c.in-Err-of.u) (c.in-Err-of.v)) (c.in-Ok.ensures.0) (c.in-Err-of.ensures.second.is)) refl

@@ -6,7 +6,7 @@ use Rattle.judge.proofs.by_scope.judge_location.Goals as goal
 
 pub returns-in-Some : goal.returns-in-Some
 returns-in-Some g c =
-    (back_shown _ (g.met.E.Execution.full _) _ (c.args.chains.now.ordered) (c.args.chains.now.single) _ _ _ (omega (arith, c.requires.steps)) (c.in-Some.ensures), refl)
+    (back_shown _ (g.met.E.Execution.full _) _ (c.args.chains.now.ordered) (c.args.chains.now.single) _ _ _ (omega (arith, c.requires.steps)) (c.in-Some.ensures.1), refl)
 
 pub write_steps-requires-clause-joined : goal.write_steps-requires-clause-joined
 write_steps-requires-clause-joined g c =

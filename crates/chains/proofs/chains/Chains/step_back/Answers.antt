@@ -1,7 +1,12 @@
-use Rattle.std.proofs.Common.{arith}
+use Rattle.std.proofs.Common.{below_more, arith}
+use Rattle.relation.specs.Pairs.{Pairs}
+use Rattle.chains.specs.Ends.{LeadsBackFrom}
 use Rattle.chains.proofs.Orders.{order_causal}
 use Rattle.chains.proofs.StoreSteps.{no_back, none_all}
 use Rattle.chains.proofs.chains.Chains.step_back.Goals as goal
+
+pub loop-x-preserved : goal.loop-x-preserved
+loop-x-preserved g c = below_more (λ x. ¬ LeadsBackFrom _ (Pairs _) x) _ (c.loop-x.invariant) (c.in_default.ensures)
 
 pub returns : goal.returns
 returns g c =
