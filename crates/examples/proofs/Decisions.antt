@@ -37,6 +37,11 @@ dec_if (no n) e = yes (λ a. absurd (n a))
 dec_if (yes a) (yes b) = yes (λ _. b)
 dec_if (yes a) (no m) = no (λ f. m (f a))
 
+-- where the second is decided only if the first holds
+abbrev pub dec_when : {A B : Type 0} → Dec A → (A → Dec B) → Dec (A → B)
+dec_when (no n) e = yes (λ a. absurd (n a))
+dec_when (yes a) e = map_dec (λ b _. b) (λ f. f a) (e a)
+
 abbrev pub dec_not : {A : Type 0} → Dec A → Dec (¬ A)
 dec_not (yes a) = no (λ n. n a)
 dec_not (no n) = yes n

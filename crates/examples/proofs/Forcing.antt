@@ -4,6 +4,7 @@ use Rattle.std.proofs.Math.Decide.{dec_le}
 use Rattle.events.specs.Graph.{PoRf}
 use Rattle.events.specs.Relations.{Rel, Acyclic}
 use Rattle.events.specs.declared.event.Event.{Event}
+use Rattle.models.proofs.Inside.{step_inside}
 use Rattle.models.specs.Models.{Hb, rule_of, scope_of}
 use Rattle.models.specs.declared.name.ModelName.{ModelName}
 use Rattle.models.specs.declared.name.ModelName.TheVariants.{Rc20, Ra, Sra, Wra, Relaxed}
@@ -21,12 +22,12 @@ use Rattle.verdicts.proofs.First.{first_causal, first_twin, first_weak, first_ba
 use Rattle.judge.specs.Found.{NoneLeft}
 use Rattle.judge.specs.Judges.{FitsScope}
 use Rattle.judge.proofs.Verdicts.{says, rules_out}
-use Rattle.runlog.specs.Spelling.{spelling}
-use Rattle.examples.specs.Forced.{ConsistentBy, InconsistentBy, Outcome, Forced, Example}
+use Rattle.examples.specs.Forced.{ConsistentBy, InconsistentBy, Outcome, Forced, Only}
 use Rattle.examples.specs.Forced.Outcome.{consistent, inconsistent, refused}
 use Rattle.examples.proofs.Decisions.{dec_and, dec_and3, dec_and4, dec_if}
 use Rattle.examples.proofs.Deciding.{dec_no_update, dec_lowest, dec_no_twins, dec_no_weak, dec_no_back, dec_laid, dec_laid_events, dec_scope, dec_nil, dec_violates}
 use Rattle.examples.proofs.Drawn.{Drawn, joined, inside, dec_hb, dec_acyclic}
+use Rattle.examples.proofs.Alone.{Alone, dec_alone, alone}
 
 -- a proof, where a decision finds what it takes
 abbrev pub checked : {A B : Type 0} → Dec A → (A → B) → Option B
@@ -94,28 +95,37 @@ module _ {es : List Event} {f g h : List ℕ} (d : Drawn es f g h) (m : ModelNam
         fails = rules_out es (d.full) (rule_of m es) (joined m es (d.full)) scope fits v ss holds;
       }
 
-  abbrev pub check : (t : Outcome) → Option (Forced m es t)
+  abbrev pub IsAlone : Violation → List Step → Type 0
+  IsAlone v ss = Alone es hb (inside d m) (dec_hb d m) f (d.reads) v ss
+
+  pub only_one : (v : Violation) (ss : List Step) → InconsistentBy m es v ss → IsAlone v ss → Only m es (inconsistent v ss)
+  only_one v ss by is w ts holds first =
+      alone es hb (inside d m) (dec_hb d m) f (d.reads) (step_inside es (d.full)) scope v ss is by.holds w ts holds
+      (let up = by.first w ts holds in let down = first v ss by.holds in omega arith)
+
+  abbrev pub check : (t : Outcome) → Option (Forced m es t × Only m es t)
   check (consistent o) =
-      checked (dec_and4 (dec_laid_at scope o) (dec_acyclic d) (dec_no_twins es) dec_fits) (laid_consistent o)
+      checked (dec_and4 (dec_laid_at scope o) (dec_acyclic d) (dec_no_twins es) dec_fits) (λ h. (laid_consistent o h, tt))
   check (inconsistent v ss) =
       checked
+      (dec_and
       (dec_and3 dec_fits (dec_violates es hb (inside d m) (dec_hb d m) f (d.reads) scope v ss)
       (dec_and3 (dec_if (dec_le 2 (violation_number v)) (dec_acyclic d))
       (dec_if (dec_le 3 (violation_number v)) (dec_no_twins es))
       (dec_if (dec_and (dec_le 5 (violation_number v)) (dec_scope scope Location)) dec_forth)))
-      (first_inconsistent v ss)
-  check (refused u) = checked (dec_and (dec_scope scope Whole) (dec_lowest es u)) (λ (w, l). record { whole = w; lowest = l })
+      (dec_alone es hb (inside d m) (dec_hb d m) f (d.reads) v ss))
+      (λ (h, is). let by = first_inconsistent v ss h in (by, only_one v ss by is))
+  check (refused u) =
+      checked (dec_and (dec_scope scope Whole) (dec_lowest es u)) (λ (w, l). (record { whole = w; lowest = l }, tt))
 
 module _ {es : List Event} {f g h : List ℕ} (d : Drawn es f g h) where
-  pub example : (outcome : ModelName → Outcome) →
+  -- the outcomes are forced, and of each violation there is no other
+  pub outcomes : (outcome : ModelName → Outcome) →
       IsFound (check d Rc20 (outcome Rc20)) → IsFound (check d Ra (outcome Ra)) → IsFound (check d Sra (outcome Sra)) →
       IsFound (check d Wra (outcome Wra)) → IsFound (check d Relaxed (outcome Relaxed)) →
-      (s : List ℕ) → s ≡ spelling es → Example es s outcome
-  example outcome rc20 ra sra wra relaxed s spells = record { full = d.full; spells = spells; forced = each }
-    where
-      each : (m : ModelName) → Forced m es (outcome m)
-      each Rc20 = found _ rc20
-      each Ra = found _ ra
-      each Sra = found _ sra
-      each Wra = found _ wra
-      each Relaxed = found _ relaxed
+      (m : ModelName) → Forced m es (outcome m) × Only m es (outcome m)
+  outcomes outcome rc20 ra sra wra relaxed Rc20 = found _ rc20
+  outcomes outcome rc20 ra sra wra relaxed Ra = found _ ra
+  outcomes outcome rc20 ra sra wra relaxed Sra = found _ sra
+  outcomes outcome rc20 ra sra wra relaxed Wra = found _ wra
+  outcomes outcome rc20 ra sra wra relaxed Relaxed = found _ relaxed

@@ -3,6 +3,11 @@ pub mod Tables
 pub mod Listing
 pub mod Deciding
 pub mod Drawn
+pub mod Ends
+pub mod Rounds
+pub mod Alone
 pub mod Forcing
-pub mod Known
 pub mod Judged
+pub mod Printing
+pub mod Reported
+pub mod Known

@@ -7,7 +7,9 @@ use Rattle.verdicts.specs.declared.step.Sort.TheVariants.{Po, Rf, Before, Read, 
 use Rattle.verdicts.specs.declared.step.Step.{Step}
 use Rattle.verdicts.specs.declared.violation.Violation.TheVariants.{Causal, Twin, Weak, Back, Round, Whole}
 use Rattle.examples.specs.declared.logs.ExampleLogs.{ExampleLogs}
+use Rattle.runlog.specs.Sample.{Spelled}
 use Rattle.examples.specs.Runs as run
+use Rattle.examples.specs.Printed as print
 use Rattle.examples.specs.Forced.{Outcome, OneOutcome, Example}
 use Rattle.examples.specs.Forced.Outcome.{consistent, inconsistent, refused}
 use Rattle.examples.specs.Judged.{Answered}
@@ -65,16 +67,19 @@ orders_that_differ Sra = consistent (4 ∷ (3 ∷ (2 ∷ [])))
 orders_that_differ Wra = consistent []
 orders_that_differ m = consistent (4 ∷ (2 ∷ (3 ∷ [])))
 
--- The definitions force of each run under each model the outcome above. No other is forced, and it is what the judge answers.
+-- The definitions force of each run under each model the outcome above, and no other, and what is printed of its log is the text that
+-- is printed here. Any two outcomes that are forced are the same, and they are what the judge answers.
 pub record Examples (logs : ExampleLogs) : Type 0 where
-  pub no_events : Example run.no_events logs.no_events no_events
-  pub two_writes_each_way : Example run.two_writes_each_way logs.two_writes_each_way two_writes_each_way
-  pub handing_over : Example run.handing_over logs.handing_over handing_over
-  pub handing_over_relaxed : Example run.handing_over_relaxed logs.handing_over_relaxed handing_over_relaxed
-  pub twin : Example run.twin logs.twin twin
-  pub back : Example run.back logs.back back
-  pub load_buffering : Example run.load_buffering logs.load_buffering load_buffering
-  pub update_in_between : Example run.update_in_between logs.update_in_between update_in_between
-  pub orders_that_differ : Example run.orders_that_differ logs.orders_that_differ orders_that_differ
+  pub no_events : Example run.no_events logs.no_events no_events print.no_events
+  pub two_writes_each_way : Example run.two_writes_each_way logs.two_writes_each_way two_writes_each_way print.two_writes_each_way
+  pub handing_over : Example run.handing_over logs.handing_over handing_over print.handing_over
+  pub handing_over_relaxed : Example run.handing_over_relaxed logs.handing_over_relaxed handing_over_relaxed print.handing_over_relaxed
+  pub twin : Example run.twin logs.twin twin print.twin
+  pub back : Example run.back logs.back back print.back
+  pub load_buffering : Example run.load_buffering logs.load_buffering load_buffering print.load_buffering
+  pub update_in_between : Example run.update_in_between logs.update_in_between update_in_between print.update_in_between
+  pub orders_that_differ : Example run.orders_that_differ logs.orders_that_differ orders_that_differ print.orders_that_differ
+  -- the log of these two writes each way has 66 bytes, and begins and ends with these
+  pub spelled : Spelled logs.two_writes_each_way
   pub one : OneOutcome
   pub answered : Answered

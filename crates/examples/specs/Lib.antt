@@ -1,4 +1,5 @@
 pub mod Runs
+pub mod Printed
 pub mod Forced
 pub mod Judged
 pub mod Examples

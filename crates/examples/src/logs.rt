@@ -48,10 +48,12 @@ pub struct ExampleLogs {
     pub orders_that_differ: [u8; 46],
 }
 
-/// The logs of the examples. The contract says for each which full run it spells, and the outcome of that run under each of the
-/// five models: an order, a violation and its steps, or the update for which it is refused. The definitions force this, whatever
-/// any code answers. The contract has two theorems besides: outcomes that are forced of one run agree in the order, in the kind
-/// of the violation, or in that update; and so does a judge's answer with an outcome that is forced.
+/// The logs of the examples. The contract says for each which full run it spells, the outcome of that run under each of the
+/// five models, and the characters that are printed of it: an order, a violation and its steps, or the update for which it is
+/// refused. The definitions force this, whatever any code answers, and of each violation that there is no other of its kind. The
+/// contract has two theorems besides: outcomes that are forced of one run agree in the order, in the kind of the violation, or in
+/// that update; and so does a judge's answer with an outcome that is forced. Where no other violation is of that kind, they agree
+/// in the violation.
 pub fn examples() -> ExampleLogs
     ensures { Examples result }
 {

@@ -15,6 +15,7 @@ returns c =
       load_buffering = known.load_buffering-example _ refl;
       update_in_between = known.update_in_between-example _ refl;
       orders_that_differ = known.orders_that_differ-example _ refl;
+      spelled = c.two_plus_two_writes.ensures;
       one = one;
       answered = answered;
     }
