@@ -1,5 +1,5 @@
 -- Texts laid over memory one behind another.
-use Rattle.std.proofs.Common.{◌≡◌, ℕ, zero, suc, ◌+◌, ◌≤◌, ◌<◌, List, [], ◌∷◌, ◌++◌, length, Ok, Err, sym, ap, refl, ◌∙◌, length-append, arith, ⊎_elim}
+use Rattle.std.proofs.Common.{◌≡◌, ℕ, zero, suc, ◌+◌, ◌≤◌, ◌<◌, List, [], ◌∷◌, ◌++◌, length, Ok, Err, sym, ap, refl, subst, ◌∙◌, length-append, arith, ⊎_elim}
 use Rattle.std.specs.Prelude.{min}
 use Rattle.std.proofs.lemmas.Bool.{cases_lt}
 use Rattle.std.proofs.lemmas.Grind.{common_steps}
@@ -58,3 +58,7 @@ written {t} {seen} {old} {new} {count} {n} h fits k =
 
 pub no_room : {t seen : List ℕ} {count : ℕ} (old : List ℕ) (f : Full) → Puts t 0 [] seen count → length old < count → Writes t old old (Err f)
 no_room old f h long = let counted = h.behind in (omega (arith, counted, long), refl)
+
+-- The same text, as it is called elsewhere.
+pub puts_as : {t u old new : List ℕ} {at end : ℕ} → t ≡ u → Puts t at old new end → Puts u at old new end
+puts_as {t} {u} {old} {new} {at} {end} is h = subst (λ l. Puts l at old new end) is h
