@@ -37,4 +37,4 @@ event_text e =
 
 -- a refusal, by its number and its place
 abbrev pub refused_text : ℕ × ℕ → List ℕ
-refused_text (number, place) = spaced (codes "refused" ∷ (decimal number ∷ (decimal place ∷ [])))
+refused_text code = spaced (codes "refused" ∷ (decimal code.0 ∷ (decimal code.1 ∷ [])))

@@ -4,7 +4,7 @@ use Rattle.std.specs.List.{join_with_byte, flat_map}
 use Rattle.events.specs.Relations.{Rel}
 use Rattle.events.specs.Text.{refused_text}
 use Rattle.events.specs.declared.event.Event.{Event}
-use Rattle.executions.specs.Faults.{fault_number, fault_place}
+use Rattle.executions.specs.Faults.{fault_code}
 use Rattle.executions.specs.declared.fault.CheckerFault.{CheckerFault}
 use Rattle.executions.specs.declared.fault.CheckerFault.TheVariants.{HasUpdates}
 use Rattle.models.specs.Models.{Hb, rule_of, scope_of}
@@ -54,7 +54,7 @@ words_by_ends scope es hb (violation.Whole k) ss is = ap (λ l. codes "WHOLE" �
 abbrev outcome_words : List Event → Outcome → List (List ℕ)
 outcome_words es (consistent o) = codes "consistent" ∷ order_words es o
 outcome_words es (inconsistent v ss) = codes "inconsistent" ∷ violation_words v ss
-outcome_words es (refused u) = refused_text (fault_number (HasUpdates u)) (fault_place (HasUpdates u)) ∷ []
+outcome_words es (refused u) = refused_text (fault_code (HasUpdates u)) ∷ []
 
 abbrev pub outcome_line : ModelName → List Event → Outcome → List ℕ
 outcome_line m es t = join_with_byte space (model_word m ∷ outcome_words es t) ++ codes "\n"

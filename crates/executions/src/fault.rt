@@ -1,6 +1,7 @@
 //! The refusals of the checker layer.
 ghost use Rattle.events.specs.declared.refusal.Layer.TheVariants.{Checker};
 ghost use Rattle.std.specs.Prelude.{Some};
+ghost use Rattle.std.specs.Fmt.{styled_text};
 ghost use Rattle.events.specs.Text.{refused_text};
 ghost use Rattle.executions.specs.Faults.{fault_code};
 
@@ -51,8 +52,10 @@ impl Refusal for CheckerFault {
 impl fmt::Display for CheckerFault {
     ghost output = { λ f. Some (refused_text (fault_code f)) };
 
+    ghost styled_output = { λ f s. Some (styled_text s (refused_text (fault_code f))) };
+
     fn fmt<W: fmt::Write>(&self, f: &mut fmt::Formatter<W>) -> fmt::Result {
-        write!(f, "{}", Refused(*self))
+        Refused(*self).fmt(f)
     }
 }
 

@@ -1,6 +1,7 @@
 //! The refusals of the record layer.
 ghost use Rattle.events.specs.declared.refusal.Layer.TheVariants.{Record};
 ghost use Rattle.std.specs.Prelude.{Some};
+ghost use Rattle.std.specs.Fmt.{styled_text};
 ghost use Rattle.events.specs.Text.{refused_text};
 ghost use Rattle.recorder.specs.Faults.{fault_code};
 
@@ -67,8 +68,10 @@ impl Refusal for RecordFault {
 impl fmt::Display for RecordFault {
     ghost output = { λ f. Some (refused_text (fault_code f)) };
 
+    ghost styled_output = { λ f s. Some (styled_text s (refused_text (fault_code f))) };
+
     fn fmt<W: fmt::Write>(&self, f: &mut fmt::Formatter<W>) -> fmt::Result {
-        write!(f, "{}", Refused(*self))
+        Refused(*self).fmt(f)
     }
 }
 

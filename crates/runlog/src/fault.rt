@@ -1,6 +1,7 @@
 //! The refusals of the log layer. Each place is a byte of the log, counted from 0.
 ghost use Rattle.events.specs.declared.refusal.Layer.TheVariants.{Log as LogLayer};
 ghost use Rattle.std.specs.Prelude.{Some};
+ghost use Rattle.std.specs.Fmt.{styled_text};
 ghost use Rattle.events.specs.Text.{refused_text};
 ghost use Rattle.runlog.specs.Faults.{fault_code};
 
@@ -45,8 +46,10 @@ impl Refusal for LogFault {
 impl fmt::Display for LogFault {
     ghost output = { λ f. Some (refused_text (fault_code f)) };
 
+    ghost styled_output = { λ f s. Some (styled_text s (refused_text (fault_code f))) };
+
     fn fmt<W: fmt::Write>(&self, f: &mut fmt::Formatter<W>) -> fmt::Result {
-        write!(f, "{}", Refused(*self))
+        Refused(*self).fmt(f)
     }
 }
 

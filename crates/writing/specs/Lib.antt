@@ -1,1 +1,1 @@
-pub mod Pushes
+pub mod Writes

@@ -1,5 +1,5 @@
-//! Text written into memory of a fixed size, by calls that fail only where there is no room.
+//! Texts written piece by piece into memory of the caller's, and counted where there is none.
 #![tactic(auto)]
 
 pub mod pen;
-pub mod refused;
+pub mod put;

@@ -1,13 +1,9 @@
 //! A pen: characters, one after another.
-ghost use Rattle.std.specs.Prelude.{◌≡◌, ◌≤◌, ◌<◌, ◌++◌, ◌∷◌, [], decimal, drop, length, take, MatchResult};
-ghost use Rattle.writing.specs.Pushes.{Pushes};
+ghost use Rattle.std.specs.Prelude.{◌≡◌, ◌≤◌, ◌∷◌, [], length};
+ghost use Rattle.writing.specs.Writes.{Pushes, Writes};
 
-use itoa::Buffer;
+use crate::put::Full;
 use std::marker::Model;
-
-/// There is no room for a text.
-#[derive(Drop)]
-pub struct Full;
 
 /// What has been written, in memory for N characters.
 #[derive(Drop)]
@@ -67,31 +63,9 @@ impl<const N: usize> Pen<N> {
         self.push_all(&[character])
     }
 
-    /// Writes this number, in decimal digits.
-    pub fn number(&mut self, n: usize) -> Result<(), Full>
-        ensures { Pushes N (decimal n) self.old self.new result }
-    {
-        self.push_all(Buffer::new().format(n).as_bytes())
-    }
-
-    /// Hands on what a call answered, and where it was refused takes back all but the first so many characters. So one that
-    /// writes several pieces leaves none of them where one does not fit.
-    pub fn all_or_nothing(&mut self, count: usize, answer: Result<(), Full>) -> Result<(), Full>
-        ensures answer { result ≡ answer }
-        ensures keeps { MatchResult answer (λ _. self.new ≡ self.old) (λ _. self.new ≡ take count self.old) }
-        ensures within { length self.new ≤ N }
-    {
-        if answer.is_err() {
-            self.count = self.count.min(count);
-        }
-        answer
-    }
-
     /// Writes all of it at the front of this text, where it fits, and answers how many characters that are.
     pub fn copy_into(&self, text: &mut [u8]) -> Result<usize, Full>
-        ensures { MatchResult result
-            (λ n. (n ≡ length self.now) × (n ≤ length text.old) × (text.new ≡ self.now ++ drop (length self.now) text.old))
-            (λ _. (length text.old < length self.now) × (text.new ≡ text.old)) }
+        ensures { Writes self.now text.old text.new result }
     {
         if text.len() < self.count {
             return Err(Full);
@@ -112,8 +86,7 @@ mod tests {
         assert_eq!(rt; pen.text(), b"".as_slice());
         assert!(rt; pen.push_all(b"RC20").is_ok());
         assert!(rt; pen.push(b' ').is_ok());
-        assert!(rt; pen.number(0).is_ok());
-        assert!(rt; pen.number(512).is_ok());
+        assert!(rt; pen.push_all(b"0512").is_ok());
         assert_eq!(rt; pen.text(), b"RC20 0512".as_slice());
         let mut text = [b'.'; 11];
         assert_eq!(rt; pen.copy_into(&mut text).ok(), Some(9));
@@ -125,7 +98,7 @@ mod tests {
     fn leaves_what_is_there_where_a_text_does_not_fit(rt: HostRuntime) -> Result<(), Fail> {
         let mut pen: Pen<6> = Pen::new();
         assert!(rt; pen.push_all(b"RC20").is_ok());
-        assert!(rt; pen.number(512).is_err());
+        assert!(rt; pen.push_all(b"512").is_err());
         assert!(rt; pen.push_all(b" 24").is_err());
         assert_eq!(rt; pen.text(), b"RC20".as_slice());
         assert!(rt; pen.push_all(b" 9").is_ok());
@@ -134,17 +107,6 @@ mod tests {
         let mut text = [b'.'; 5];
         assert!(rt; pen.copy_into(&mut text).is_err());
         assert_eq!(rt; &text, b".....");
-        Ok(())
-    }
-
-    #[test]
-    fn takes_back_what_was_begun(rt: HostRuntime) -> Result<(), Fail> {
-        let mut pen: Pen<6> = Pen::new();
-        assert!(rt; pen.push_all(b"RC20 9").is_ok());
-        assert!(rt; pen.all_or_nothing(4, Ok(())).is_ok());
-        assert_eq!(rt; pen.text(), b"RC20 9".as_slice());
-        assert!(rt; pen.all_or_nothing(4, Err(Full)).is_err());
-        assert_eq!(rt; pen.text(), b"RC20".as_slice());
         Ok(())
     }
 }
