@@ -3,7 +3,7 @@ use Rattle.std.proofs.Common.{◌≡◌, ℕ, zero, suc, ◌+◌, ◌<◌, ◌�
 use Rattle.std.proofs.lemmas.Bool.{cond_both, false_from_ne_true}
 use Rattle.std.specs.Bool.{Decides}
 use Rattle.std.specs.List.{find, range_with_len}
-use Rattle.recorder.specs.Lowest.{lowest, IsLowest}
+use Rattle.recorder.specs.Lowest.{lowest, IsLowestTo}
 
 -- what is found from a on, among n numbers
 abbrev Found : (ℕ → Bool) → ℕ → ℕ → Option ℕ → Type 0
@@ -30,19 +30,18 @@ module _ (p : ℕ → Bool) where
   same a n (Some i) (Some j) f g = grind (arith, f.3 j, g.3 i)
 
 module _ (p : ℕ → Bool) (P : ℕ → Type 0) (n : ℕ) (tells : (i : ℕ) → 1 ≤ i → i ≤ n → Decides (p i) (P i)) where
-  pub lowest_is : (i : ℕ) → lowest p n ≡ Some i → IsLowest P n i
+  pub lowest_is : (i : ℕ) → lowest p n ≡ Some i → IsLowestTo P n i
   lowest_is i is =
       let f = rw is at (found p n 1) in
       record {
-        from = f.0;
-        to = omega arith;
-        is = (tells i f.0 (omega arith)).0 f.2;
-        first = λ j low high h. let yes = (tells j low (omega arith)).1 h in let no = f.3 j low high in cc;
+        is = (f.0, omega arith, (tells i f.0 (omega arith)).0 f.2);
+        first = λ j less (low, to, h). let yes = (tells j low to).1 h in let no = f.3 j low less in cc;
       }
 
-  pub is_lowest : (i : ℕ) → IsLowest P n i → lowest p n ≡ Some i
+  pub is_lowest : (i : ℕ) → IsLowestTo P n i → lowest p n ≡ Some i
   is_lowest i l =
-      same p 1 n _ (Some i) (found p n 1) (l.from, omega arith, (tells i l.from l.to).1 l.is, λ j low high. false_from_ne_true _ (λ yes. l.first j low high ((tells j low (omega arith)).0 yes)))
+      let (from, to, is) = l.is in
+      same p 1 n _ (Some i) (found p n 1) (from, omega arith, (tells i from to).1 is, λ j low less. false_from_ne_true _ (λ yes. l.first j less (low, omega arith, (tells j low (omega arith)).0 yes)))
 
   pub lowest_none : lowest p n ≡ None → (i : ℕ) → 1 ≤ i → i ≤ n → ¬ P i
   lowest_none is i low high h = let no = rw is at (found p n 1) i low (omega arith) in let yes = (tells i low high).1 h in cc

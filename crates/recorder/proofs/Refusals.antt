@@ -156,7 +156,7 @@ retracted_says es =
 
 retract_fault : (es : List Event) (f : RecordFault) → RetractFault es f → retract_edit es ≡ Err f
 retract_fault es _ (no_events none) = grind (arith, nat_tests)
-retract_fault es _ (still_read {i} first) = let is = is_lowest _ _ _ (λ j low high. Decides-reader es (length es) j) i first in grind (arith, nat_tests, first.from, first.to)
+retract_fault es _ (still_read {i} first) = let is = is_lowest _ _ _ (λ j low high. Decides-reader es (length es) j) i first in grind (arith, nat_tests, first.is.0, first.is.1)
 
 pub retract_refuses : (es : List Event) → Refuses (RetractFault es) (retract_edit es)
 retract_refuses es f = (said _ _ f (retracted_says es), retract_fault es f)

@@ -7,7 +7,7 @@ use Rattle.events.specs.Run.{at, Within, Load, Fits, MayRead}
 use Rattle.events.specs.Graph.{Rf}
 use Rattle.events.specs.declared.event.Event.{Event}
 use Rattle.events.specs.declared.raw.RawEvent.{RawEvent}
-use Rattle.recorder.specs.Lowest.{IsLowest}
+use Rattle.recorder.specs.Lowest.{IsLowestTo}
 use Rattle.recorder.specs.Places.{events_of, place_of}
 use Rattle.recorder.specs.declared.fault.RecordFault.{RecordFault}
 use Rattle.recorder.specs.declared.fault.RecordFault.TheVariants.{Field, NoEvent, NotALoad, Unfit, ShortMemory, TooMany, NoEvents, StillRead, NoWriter, Damaged}
@@ -28,7 +28,7 @@ pub record Whole (n : ℕ) (memory : List RawEvent) : Type 0 where
 pub data Refusal (n : ℕ) (memory : List RawEvent) (Fault : List Event → RecordFault → Type 0) : RecordFault → Type 0 where
   short : length memory < max_events → Refusal n memory Fault ShortMemory
   damaged :
-      {i : ℕ} → max_events ≤ length memory → IsLowest (IsDamaged (take n memory)) (length (take n memory)) i
+      {i : ℕ} → max_events ≤ length memory → IsLowestTo (IsDamaged (take n memory)) (length (take n memory)) i
       → Refusal n memory Fault (Damaged i)
   asked : {f : RecordFault} → Whole n memory → Fault (events_of (take n memory)) f → Refusal n memory Fault f
 
@@ -43,10 +43,10 @@ pub data LinkFault (i w : ℕ) (es : List Event) : RecordFault → Type 0 where
 
 pub data RetractFault (es : List Event) : RecordFault → Type 0 where
   no_events : length es ≡ 0 → RetractFault es NoEvents
-  still_read : {i : ℕ} → IsLowest (Rf es (length es)) (length es) i → RetractFault es (StillRead i)
+  still_read : {i : ℕ} → IsLowestTo (Rf es (length es)) (length es) i → RetractFault es (StillRead i)
 
 pub data SealFault (es : List Event) : RecordFault → Type 0 where
-  no_writer : {i : ℕ} → IsLowest (λ r. Load es r × ((at es r).writer ≡ 0)) (length es) i → SealFault es (NoWriter i)
+  no_writer : {i : ℕ} → IsLowestTo (λ r. Load es r × ((at es r).writer ≡ 0)) (length es) i → SealFault es (NoWriter i)
 
 -- a call is refused for exactly these reasons
 abbrev pub Refuses : {A : Type 0} → (RecordFault → Type 0) → Result A RecordFault → Type 0
