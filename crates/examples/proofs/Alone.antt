@@ -9,6 +9,8 @@ use Rattle.verdicts.specs.Chains.{SameChain, BeforeInChain}
 use Rattle.verdicts.specs.Steps.{Overwrites, ReadSteps, StoreStep}
 use Rattle.verdicts.specs.Numbers.{violation_number}
 use Rattle.verdicts.specs.Violations.{AreTwins, Violates, Leads, IsPoOrRf, IsBeforeOrRead, IsHbOrRead, StepHolds, step_at, SameEvent, AtLocation}
+use Rattle.verdicts.specs.declared.step.Sort.{Sort}
+use Rattle.verdicts.specs.declared.step.Sort.TheVariants as sort
 use Rattle.verdicts.specs.declared.step.Step.{Step}
 use Rattle.verdicts.specs.declared.violation.Violation.{Violation}
 use Rattle.verdicts.specs.declared.violation.Violation.TheVariants as violation
@@ -35,21 +37,26 @@ module _ (es : List Event) (hb : Rel) (inside : Inside es hb) (dec : (a b : ℕ)
   abbrev listed : (R : Rel) → ((a b : ℕ) → Dec (R a b)) → List Step
   listed R d = steps_below R d (bound es) (bound es)
 
-  listed_each : (R : Rel) (d : (a b : ℕ) → Dec (R a b)) → Inside es R → (P : Step → Type 0) → Every P (listed R d) → (s : Step) → R s.from s.to → P (plainly s)
+  listed_each : (R : Rel) (d : (a b : ℕ) → Dec (R a b)) → Inside es R → (P : Step → Type 0) → Every P (listed R d) → (s : Step) →
+      R s.from s.to → P (plainly s)
   listed_each R d in_run P each s r =
-      let (v, w) = in_run s.from s.to r in below_each R d P (bound es) (bound es) each s.from (within_low es s.from v) s.to (within_low es s.to w) r
+      let (v, w) = in_run s.from s.to r in
+      below_each R d P (bound es) (bound es) each s.from (within_low es s.from v) s.to (within_low es s.to w) r
+
+  by_sort : (s : Step) (t : Sort) → s.sort ≡ t → Leads es hb s.sort s.from s.to → Leads es hb t s.from s.to
+  by_sort s t is = subst (λ k. Leads es hb k s.from s.to) is
 
   po_rf_step : (s : Step) → StepHolds IsPoOrRf es hb s → PoRf es s.from s.to
-  po_rf_step s (inl is, l) = inl (subst (λ t. Leads es hb t s.from s.to) is l)
-  po_rf_step s (inr is, l) = inr (subst (λ t. Leads es hb t s.from s.to) is l)
+  po_rf_step s (inl is, l) = inl (by_sort s sort.Po is l)
+  po_rf_step s (inr is, l) = inr (by_sort s sort.Rf is l)
 
   hb_or_read_step : (s : Step) → StepHolds IsHbOrRead es hb s → HbOrRead s.from s.to
-  hb_or_read_step s (inl is, l) = inl (subst (λ t. Leads es hb t s.from s.to) is l)
-  hb_or_read_step s (inr (r, is), l) = inr (r, subst (λ t. Leads es hb t s.from s.to) is l)
+  hb_or_read_step s (inl is, l) = inl (by_sort s sort.Hb is l)
+  hb_or_read_step s (inr (r, is), l) = inr (r, by_sort s (sort.Read r) is l)
 
   between_step : (s : Step) → StepHolds IsBeforeOrRead es hb s → StoreStep es hb s.from s.to
-  between_step s (inl is, l) = inl (subst (λ t. Leads es hb t s.from s.to) is l)
-  between_step s (inr (r, is), l) = inr (r, subst (λ t. Leads es hb t s.from s.to) is l)
+  between_step s (inl is, l) = inl (by_sort s sort.Before is l)
+  between_step s (inr (r, is), l) = inr (r, by_sort s (sort.Read r) is l)
 
   reads_inside : Inside es (ReadSteps es hb)
   reads_inside a b (r, s) = (s.0.0.0, s.0.1.0)

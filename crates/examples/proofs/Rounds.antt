@@ -59,8 +59,8 @@ module _ (R : Rel) (d : (a b : ℕ) → Dec (R a b)) where
         let others = steps_below n k in
         more_below (λ a. (b : ℕ) → b < n → R a b → P (plain a b)) k (below_each n k (from_rest k n others e)) (from_each k n others e)
 
--- by steps that hold on from the place p, none of which starts at x, and so round to x
 module _ (Same : Rel) (Holds : Step → Type 0) where
+  -- on from the place p by steps that hold, none of which starts at x, and so round to x
   abbrev Way : ℕ → ℕ → List Step → Type 0
   Way x p [] = Same p x
   Way x p (s ∷ ss) = Same p s.from × (s.from ≢ x) × Holds s × Way x s.to ss
@@ -81,12 +81,16 @@ module _ (Same : Rel) (Holds : Step → Type 0) where
   -- a cycle leads from its first step round to where that starts
   cycle_way : ((a b : ℕ) → Same a b → Same b b) → (s : Step) (ss : List Step) → Cycle Same Holds (s ∷ ss) → Way s.from s.to ss
   cycle_way again s ss c =
-      way s.from s ss c.steps (λ i j next lt. let here : i + 1 ≡ j = omega arith in subst (λ k. Same (step_at (s ∷ ss) i).to (step_at (s ∷ ss) k).from) here (c.joined i (omega arith)))
+      way s.from s ss c.steps
+      (λ i j next lt.
+      let here : i + 1 ≡ j = omega arith in
+      subst (λ k. Same (step_at (s ∷ ss) i).to (step_at (s ∷ ss) k).from) here (c.joined i (omega arith)))
       (λ i last. let here : length (s ∷ ss) - 1 ≡ i = omega arith in subst (λ k. Same (step_at (s ∷ ss) k).to s.from) here c.closed)
       (λ i lt to. c.apart 0 (suc i) (omega arith) (omega arith) (subst (Same s.from) (sym to) (again _ s.from c.closed)))
 
 module _ (Same : Rel) (same : (a b : ℕ) → Dec (Same a b)) (edges ts : List Step) where
-  -- Fewer than n steps lead on from the place p, if none starts at x. Where they come round to x they are ts turned, with those before them.
+  -- Fewer than n steps lead on from the place p, if none starts at x. Where they come round to x they are, with those before
+  -- them, ts turned.
   abbrev pub Leading : ℕ → ℕ → List Step → ℕ → Type 0
   Leading zero x before p = ⊥
   Leading (suc n) x before p =
@@ -97,7 +101,9 @@ module _ (Same : Rel) (same : (a b : ℕ) → Dec (Same a b)) (edges ts : List S
   dec_leading zero x before p = no (λ e. e)
   dec_leading (suc n) x before p =
       dec_and (dec_when (same p x) (λ _. dec_pairs (ends before) (ends ts)))
-      (dec_every _ (λ s. dec_when (same p s.from) (λ _. dec_when (dec_not (ℕ_discrete s.from x)) (λ _. dec_leading n x (before ++ s ∷ []) s.to)))
+      (dec_every _
+      (λ s. dec_when (same p s.from)
+      (λ _. dec_when (dec_not (ℕ_discrete s.from x)) (λ _. dec_leading n x (before ++ s ∷ []) s.to)))
       edges)
 
   -- whichever step comes first
@@ -120,4 +126,5 @@ module _ (Same : Rel) (same : (a b : ℕ) → Dec (Same a b)) (edges ts : List S
     cycle_known again n known [] c = let two = c.two in absurd (omega arith)
     cycle_known again n known (s ∷ ss) c =
         sym (ends_plain (s ∷ ss))
-        ∙ way_known n s.from (plainly s ∷ []) s.to (among _ known s (c.steps 0 (let two = c.two in omega arith))) ss (cycle_way Same Holds again s ss c)
+        ∙ way_known n s.from (plainly s ∷ []) s.to (among _ known s (c.steps 0 (let two = c.two in omega arith))) ss
+        (cycle_way Same Holds again s ss c)
