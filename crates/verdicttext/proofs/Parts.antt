@@ -105,11 +105,3 @@ module _ (es : List Event) where
     text_more =
         ap (λ t. parts None (take i o) ++ t) (sym (append-nil piece) ∙ ap (λ t. t ++ []) (sym is_part))
         ∙ (sym (parts_append None (take i o) (get_or o i 0 ∷ [])) ∙ ap (parts None) (sym (take_more o i 0 within)))
-
-    abbrev pub after : List ℕ
-    after = parts (Some (location es (get_or o i 0))) (drop (suc i) o)
-
-    pub whole : parts None o ≡ parts None (take i o) ++ (piece ++ after)
-    whole =
-        ap (parts None) (split_at o i 0 within)
-        ∙ (parts_append None (take i o) (get_or o i 0 ∷ drop (suc i) o) ∙ ap (λ t. parts None (take i o) ++ (t ++ after)) is_part)

@@ -25,21 +25,3 @@ pub given_texts : (text : Step → List ℕ) (ss : List Step) (s t : Steps) → 
 given_texts text ss s t is steps fresh items u v end by none last =
     let road = YieldsList-at is (YieldsList-from_chain (YieldsList-from_slice t.a.rest.now refl) (YieldsList-from_slice t.b.rest.now refl) fresh.0 fresh.1) in
     sym (map-map text (λ i. i.now) items) ∙ ap (map text) ((YieldsList-end road items u by end v none last).0 ∙ steps)
-
--- s gave these items and then one more, so the texts of ss are theirs, that one's, and some others
-pub given_next : (text : Step → List ℕ) (ss : List Step) (s t : Steps) → s ≡ t → t.a.rest.now ++ t.b.rest.now ≡ ss
-    → (t.a_done ≡ false) × (t.b_done ≡ false)
-    → (items : List (Bor Step)) (u v : Steps) (next : Option (Bor Step)) (item : Bor Step) → Yields Gives s items u → next ≡ Some item → Gives u next v
-    → (others : List (List ℕ)) × (map text ss ≡ map (λ i. text i.now) items ++ text item.now ∷ others)
-given_next text ss s t is steps fresh items u v next item by some more =
-    let road = YieldsList-at is (YieldsList-from_chain (YieldsList-from_slice t.a.rest.now refl) (YieldsList-from_slice t.b.rest.now refl) fresh.0 fresh.1) in
-    let all = t.a.rest.now ++ t.b.rest.now in
-    let k = length items in
-    let turn = YieldsList-turn road items u by next v item some more in
-    let before = sym (map-map text (λ i. i.now) items) ∙ ap (map text) (YieldsList-so_far road items u by) in
-    let others = map text (drop (suc k) all) in (
-      others,
-      ap (map text) (sym steps ∙ split_at all k item.now turn.0)
-          ∙ (map-append text (take k all) (get_or all k item.now ∷ drop (suc k) all)
-          ∙ (ap (λ l. l ++ text (get_or all k item.now) ∷ others) (sym before) ∙ ap (λ x. map (λ i. text i.now) items ++ text x ∷ others) (sym turn.1))),
-    )

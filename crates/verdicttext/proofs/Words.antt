@@ -23,9 +23,8 @@ pub mark_more : {X : Type 0} (c : ℕ) (ws : List X) (v : X) → c ∷ [] ≡ ma
 mark_more c [] v = refl
 mark_more c (w ∷ ws) v = refl
 
--- a word among others, after what stands before it
-pub joined_between : {X : Type 0} (text : X → List ℕ) (c : ℕ) (ws : List X) (v : List ℕ) (vs : List (List ℕ))
-    → join_with_byte c (map text ws ++ v ∷ vs) ≡ join_with_byte c (map text ws) ++ ((mark_after c ws ++ v) ++ flat_map (marked c) vs)
-joined_between text c [] v vs = joined_from_first c v vs
-joined_between text c (w ∷ []) v vs = ap (λ l. text w ++ (c ∷ l)) (joined_from_first c v vs)
-joined_between text c (w ∷ u ∷ ws) v vs = ap (λ l. text w ++ (c ∷ l)) (joined_between text c (u ∷ ws) v vs) ∙ sym (append_assoc (text w) (c ∷ _) _)
+-- one word more, each after this character
+pub marked_more : {X : Type 0} (text : X → List ℕ) (c : ℕ) (ws : List X) (v : X)
+    → flat_map (marked c) (map text ws) ++ marked c (text v) ≡ flat_map (marked c) (map text (ws ++ v ∷ []))
+marked_more text c [] v = sym (append-nil (marked c (text v)))
+marked_more text c (w ∷ ws) v = append_assoc (marked c (text w)) _ _ ∙ ap (λ l. marked c (text w) ++ l) (marked_more text c ws v)

@@ -5,13 +5,13 @@ ghost use Rattle.std.specs.List.{join_with_byte, flat_map};
 ghost use Rattle.std.specs.Slice.Iter.{iter_rest};
 ghost use Rattle.verdicttext.specs.Text.{comma, cycle_words, marked, space, step_text};
 ghost use Rattle.verdicttext.specs.Turns.{lowest_start, turned};
-ghost use Rattle.writing.specs.Pushes.{Begins};
+ghost use Rattle.writing.specs.Writes.{Puts};
 
-use crate::word::begin_word;
+use crate::word::put_word;
 use std::iter::Chain;
 use std::slice::Iter;
 use verdicts::step::Step;
-use writing::pen::{Full, Pen};
+use writing::put::{put, put_number};
 
 // Where the lowest start stands, at first.
 fn lowest_start(steps: &[Step]) -> usize
@@ -37,33 +37,35 @@ fn turned<'a>(steps: &'a [Step]) -> Chain<Iter<'a, Step>, Iter<'a, Step>>
 }
 
 // Where the steps start, each after a space.
-pub(crate) fn begin_starts<const N: usize>(pen: &mut Pen<N>, steps: &[Step]) -> Result<(), Full>
-    ensures { Begins N (flat_map (marked space) (cycle_words steps.now)) pen.old pen.new result }
+pub(crate) fn put_starts(text: &mut [u8], place: usize, steps: &[Step]) -> usize
+    ensures { Puts (flat_map (marked space) (cycle_words steps.now)) place text.old text.new result }
 {
+    let mut at = place;
     for step in turned(steps) {
-        begin_word(pen, step.from)?;
+        at = put_word(text, at, step.from);
     }
-    Ok(())
+    at
 }
 
 // The step, after this mark.
-fn begin_step<const N: usize>(pen: &mut Pen<N>, mark: &[u8], step: &Step) -> Result<(), Full>
-    ensures { Begins N (mark.now ++ step_text step.now) pen.old pen.new result }
+fn put_step(text: &mut [u8], at: usize, mark: &[u8], step: &Step) -> usize
+    ensures { Puts (mark.now ++ step_text step.now) at text.old text.new result }
 {
-    pen.push_all(mark)?;
-    pen.number(usize::from(step.from))?;
-    pen.push(b'>')?;
-    pen.number(usize::from(step.to))
+    let at = put(text, at, mark);
+    let at = put_number(text, at, usize::from(step.from));
+    let at = put(text, at, b">");
+    put_number(text, at, usize::from(step.to))
 }
 
 // The steps, with a comma between each and the next.
-pub(crate) fn begin_steps<const N: usize>(pen: &mut Pen<N>, steps: &[Step]) -> Result<(), Full>
-    ensures { Begins N (join_with_byte comma (map step_text (turned steps.now))) pen.old pen.new result }
+pub(crate) fn put_steps(text: &mut [u8], place: usize, steps: &[Step]) -> usize
+    ensures { Puts (join_with_byte comma (map step_text (turned steps.now))) place text.old text.new result }
 {
+    let mut at = place;
     let mut mark = b"".as_slice();
     for step in turned(steps) {
-        begin_step(pen, mark, step)?;
+        at = put_step(text, at, mark, step);
         mark = b",";
     }
-    Ok(())
+    at
 }

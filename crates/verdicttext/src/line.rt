@@ -1,24 +1,22 @@
 //! What judging a run came to, as one line.
-ghost use Rattle.std.specs.Prelude.{◌≡◌, ℕ, List, Some, take};
+ghost use Rattle.std.specs.Prelude.{◌≡◌, ℕ, List, take};
 ghost use Rattle.events.specs.Run.{FullRun};
 ghost use Rattle.verdicts.specs.declared.step.Step.{Step as StepOf};
 ghost use Rattle.verdicttext.specs.Groups.{groups, PartOrder};
 ghost use Rattle.verdicttext.specs.Text.{line_text};
 ghost use Rattle.verdicttext.specs.Turns.{LowestFirst};
-ghost use Rattle.writing.specs.Pushes.{Begins, Pushes};
+ghost use Rattle.writing.specs.Writes.{Puts, Writes};
 
 use crate::model::model_word;
-use crate::order::begin_order;
-use crate::violation::begin_violation;
+use crate::order::put_order;
+use crate::violation::put_violation;
+use events::text::put_refused;
 use executions::execution::Execution;
 use executions::fault::CheckerFault;
 use models::name::ModelName;
-use std::marker::Model;
-use std::{fmt, str};
 use verdicts::step::Step;
 use verdicts::verdict::Verdict;
-use writing::pen::{Full, Pen};
-use writing::refused::push_refused;
+use writing::put::{Full, put};
 
 // The first so many, or all if there are fewer.
 fn first<T>(items: &[T], count: usize) -> &[T]
@@ -30,127 +28,62 @@ fn first<T>(items: &[T], count: usize) -> &[T]
 /// No line of a judge's answer is longer: at most eight characters for each of 512 events, and 64 before them.
 pub const LONGEST_LINE: usize = 8 * 512 + 64;
 
-// Where a piece does not fit, those before it stay.
-fn begin_line<E: Execution, const N: usize>(
-    pen: &mut Pen<N>,
+// The line without its end.
+fn put_line<E: Execution>(
+    text: &mut [u8],
+    at: usize,
     model: ModelName,
     run: &E,
     answer: Result<Verdict, CheckerFault>,
     order: &[u16],
     steps: &[Step],
-) -> Result<(), Full>
-    ensures { Begins N (line_text model (E.Execution.events run.now) answer order.now steps.now) pen.old pen.new result }
+) -> usize
+    ensures { Puts (line_text model (E.Execution.events run.now) answer order.now steps.now) at text.old text.new result }
 {
-    pen.push_all(model_word(model))?;
+    let at = put(text, at, model_word(model));
     match answer {
         Ok(Verdict::Consistent(count)) => {
-            pen.push_all(b" consistent")?;
-            begin_order(pen, run, first(order, count))
+            let at = put(text, at, b" consistent");
+            put_order(text, at, run, first(order, count))
         }
         Ok(Verdict::Inconsistent(violation)) => {
-            pen.push_all(b" inconsistent ")?;
-            begin_violation(pen, violation, first(steps, violation.step_count()))
+            let at = put(text, at, b" inconsistent ");
+            put_violation(text, at, violation, first(steps, violation.step_count()))
         }
         Err(fault) => {
-            pen.push(b' ')?;
-            push_refused(pen, &fault)
+            let at = put(text, at, b" ");
+            put_refused(text, at, &fault)
         }
     }
 }
 
-/// Writes the answer of judging a run under a model, over the two buffers as judging left them, as a line without its end.
-pub fn push_line<E: Execution, const N: usize>(
-    pen: &mut Pen<N>,
+/// Writes the answer of judging a run under a model, over the two buffers as judging left them, at the front of this text, as a line
+/// without its end, and answers how many characters that are. Every other place of the text is as it was. Where the line does not
+/// fit it is refused, and all is as it was; for the answer of a judge a text of `LONGEST_LINE` places always suffices.
+pub fn write_line<E: Execution>(
     model: ModelName,
     run: &E,
     answer: Result<Verdict, CheckerFault>,
     order: &[u16],
     steps: &[Step],
-) -> Result<(), Full>
-    ensures text { Pushes N (line_text model (E.Execution.events run.now) answer order.now steps.now) pen.old pen.new result }
+    text: &mut [u8],
+) -> Result<usize, Full>
+    ensures text { Writes (line_text model (E.Execution.events run.now) answer order.now steps.now) text.old text.new result }
 
     // What groups and where turns begin, by their laws.
     ensures groups { (o : List ℕ) → PartOrder (E.Execution.events run.now) o (groups (E.Execution.events run.now) o) }
     ensures turns { (ss : List StepOf) → LowestFirst ss }
 {
-    let count = pen.text().len();
-    let begun = begin_line(pen, model, run, answer, order, steps);
-    pen.all_or_nothing(count, begun)
-}
-
-/// The answer of judging a run under a model, as a line without its end. A contract sees the characters.
-#[derive(Drop)]
-pub struct VerdictLine<'a, E: Execution> {
-    model: ModelName,
-    run: &'a E,
-    answer: Result<Verdict, CheckerFault>,
-    order: &'a [u16],
-    steps: &'a [Step],
-}
-
-impl<'a, E: Execution> Model for VerdictLine<'a, E> {
-    ghost use Rattle.std.specs.Prelude.{ℕ, List};
-    ghost use Rattle.verdicttext.specs.Text.{line_text};
-
-    ghost Value = { List ℕ };
-
-    ghost view = { λ t. line_text t.model (E.Execution.events t.run.now) t.answer t.order.now t.steps.now };
-}
-
-impl<'a, E: Execution> VerdictLine<'a, E> {
-    /// The line of this answer, over the two buffers as judging left them.
-    pub fn new(
-        model: ModelName,
-        run: &'a E,
-        answer: Result<Verdict, CheckerFault>,
-        order: &'a [u16],
-        steps: &'a [Step],
-    ) -> VerdictLine<'a, E>
-        ensures text { result ≡ line_text model (E.Execution.events run.now) answer order.now steps.now }
-
-        // What groups and where turns begin, by their laws.
-        ensures groups { (o : List ℕ) → PartOrder (E.Execution.events run.now) o (groups (E.Execution.events run.now) o) }
-        ensures turns { (ss : List StepOf) → LowestFirst ss }
-    {
-        VerdictLine {
-            model,
-            run,
-            answer,
-            order,
-            steps,
-        }
+    if put_line(&mut [], 0, model, run, answer, order, steps) > text.len() {
+        return Err(Full);
     }
-}
-
-/// As `push_line` writes it. A line longer than `LONGEST_LINE` is an error.
-impl<'a, E: Execution> fmt::Display for VerdictLine<'a, E> {
-    ghost output = { λ t. Some t };
-
-    fn fmt<W: fmt::Write>(&self, f: &mut fmt::Formatter<W>) -> fmt::Result {
-        let mut pen: Pen<LONGEST_LINE> = Pen::new();
-        let pushed = push_line(
-            &mut pen,
-            self.model,
-            self.run,
-            self.answer,
-            self.order,
-            self.steps,
-        );
-        if pushed.is_err() {
-            return Err(fmt::Error);
-        }
-        match str::from_utf8(pen.text()) {
-            Ok(text) => f.write_str(text),
-            Err(_) => Err(fmt::Error),
-        }
-    }
+    Ok(put_line(text, 0, model, run, answer, order, steps))
 }
 
 #[cfg(test)]
 mod tests {
     use super::*;
     use events::event::{Event, Kind, Mode};
-    use std::alloc::Global;
     use std::process::Abort;
     use std::test::Fail;
     use verdicts::step::Sort;
@@ -206,18 +139,41 @@ mod tests {
         })
     }
 
-    // Over an order of the stores 3 1 2, and steps of which the third starts lowest, as the fourth does.
+    // Over an order of the stores 3 1 2, and steps of which the third starts lowest, as the fourth does: where there is room for
+    // so many characters.
     fn has_text(
         rt: &impl Abort,
-        heap: Global,
+        model: ModelName,
+        answer: Result<Verdict, CheckerFault>,
+        room: usize,
+        expected: &[u8],
+    ) -> Result<(), Fail> {
+        let steps = steps([(7, 9), (9, 2), (2, 8), (2, 7)]);
+        let run = three_stores();
+        let mut text = [b'.'; 64];
+        let written = write_line(model, &run, answer, &[3, 1, 2], &steps, &mut text[..room]);
+        if room < expected.len() {
+            assert!(rt; written.is_err());
+            assert_eq!(rt; &text, &[b'.'; 64]);
+            return Ok(());
+        }
+        assert_eq!(rt; written.ok(), Some(expected.len()));
+        assert_eq!(rt; &text[..expected.len()], expected);
+        assert!(rt; text[expected.len()..].iter().all(|character| *character == b'.'));
+        Ok(())
+    }
+
+    // With room to spare, with just enough, and with one place too few.
+    fn is_written(
+        rt: &impl Abort,
         model: ModelName,
         answer: Result<Verdict, CheckerFault>,
         expected: &str,
     ) -> Result<(), Fail> {
-        let steps = steps([(7, 9), (9, 2), (2, 8), (2, 7)]);
-        let run = three_stores();
-        let text = VerdictLine::new(model, &run, answer, &[3, 1, 2], &steps).to_string(heap)?;
-        assert_eq!(rt; text.as_str(), expected);
+        let expected = expected.as_bytes();
+        for room in [64, expected.len(), expected.len() - 1] {
+            has_text(rt, model, answer, room, expected)?;
+        }
         Ok(())
     }
 
@@ -230,13 +186,7 @@ mod tests {
             (ModelName::Wra, 3, "WRA consistent 1:3<1 2:2"),
             (ModelName::Relaxed, 9, "RELAXED consistent 1:3<1 2:2"),
         ] {
-            has_text(
-                &rt,
-                rt.alloc(),
-                model,
-                Ok(Verdict::Consistent(count)),
-                expected,
-            )?;
+            is_written(&rt, model, Ok(Verdict::Consistent(count)), expected)?;
         }
         Ok(())
     }
@@ -257,43 +207,19 @@ mod tests {
             (Violation::Whole(0), "RA inconsistent WHOLE"),
         ] {
             let answer = Ok(Verdict::Inconsistent(violation));
-            has_text(&rt, rt.alloc(), ModelName::Ra, answer, expected)?;
-        }
-        Ok(())
-    }
-
-    #[test]
-    fn a_line_that_does_not_fit(rt: HostRuntime) -> Result<(), Fail> {
-        let run = three_stores();
-        let mut pen: Pen<30> = Pen::new();
-        for (answer, fits) in [
-            (Ok(Verdict::Consistent(2)), true),
-            (Ok(Verdict::Consistent(0)), false),
-            (Err(CheckerFault::HasUpdates(2)), false),
-        ] {
-            let pushed = push_line(&mut pen, ModelName::Ra, &run, answer, &[3, 1, 2], &[]);
-            assert_eq!(rt; pushed.is_ok(), fits);
-            assert_eq!(rt; pen.text(), b"RA consistent 1:3<1".as_slice());
+            is_written(&rt, ModelName::Ra, answer, expected)?;
         }
         Ok(())
     }
 
     #[test]
     fn refusals(rt: HostRuntime) -> Result<(), Fail> {
-        let fault = CheckerFault::HasUpdates(2);
-        has_text(
-            &rt,
-            rt.alloc(),
-            ModelName::Sra,
-            Err(fault),
-            "SRA refused 24 2",
-        )?;
-        has_text(
-            &rt,
-            rt.alloc(),
-            ModelName::Ra,
-            Err(CheckerFault::ShortBuffer),
-            "RA refused 9 0",
-        )
+        for (model, fault, expected) in [
+            (ModelName::Sra, CheckerFault::HasUpdates(2), "SRA refused 24 2"),
+            (ModelName::Ra, CheckerFault::ShortBuffer, "RA refused 9 0"),
+        ] {
+            is_written(&rt, model, Err(fault), expected)?;
+        }
+        Ok(())
     }
 }

@@ -1,64 +1,65 @@
 //! A violation as text.
 ghost use Rattle.std.specs.List.{flat_map, join_with_byte};
 ghost use Rattle.verdicttext.specs.Text.{back_words, marked, space, violation_words};
-ghost use Rattle.writing.specs.Pushes.{Begins};
+ghost use Rattle.writing.specs.Writes.{Puts};
 
-use crate::cycle::{begin_starts, begin_steps};
-use crate::word::begin_word;
+use crate::cycle::{put_starts, put_steps};
+use crate::word::put_word;
 use verdicts::step::Step;
 use verdicts::violation::Violation;
-use writing::pen::{Full, Pen};
+use writing::put::put;
 
 // Where a step leads from, and where to, each after a space; nothing where there is no step.
-fn begin_back<const N: usize>(pen: &mut Pen<N>, steps: &[Step]) -> Result<(), Full>
-    ensures { Begins N (flat_map (marked space) (back_words steps.now)) pen.old pen.new result }
+fn put_back(text: &mut [u8], at: usize, steps: &[Step]) -> usize
+    ensures { Puts (flat_map (marked space) (back_words steps.now)) at text.old text.new result }
 {
     match steps {
         [step, ..] => {
-            begin_word(pen, step.from)?;
-            begin_word(pen, step.to)
+            let at = put_word(text, at, step.from);
+            put_word(text, at, step.to)
         }
-        [] => Ok(()),
+        [] => at,
     }
 }
 
 // The kind of the violation, and the events of these steps, which show it.
-pub(crate) fn begin_violation<const N: usize>(
-    pen: &mut Pen<N>,
+pub(crate) fn put_violation(
+    text: &mut [u8],
+    at: usize,
     violation: Violation,
     steps: &[Step],
-) -> Result<(), Full>
-    ensures { Begins N (join_with_byte space (violation_words violation steps.now)) pen.old pen.new result }
+) -> usize
+    ensures { Puts (join_with_byte space (violation_words violation steps.now)) at text.old text.new result }
 {
     match violation {
         Violation::Causal(_) => {
-            pen.push_all(b"CAUSAL")?;
-            begin_starts(pen, steps)
+            let at = put(text, at, b"CAUSAL");
+            put_starts(text, at, steps)
         }
         Violation::Twin(u, v) => {
-            pen.push_all(b"TWIN")?;
-            begin_word(pen, u)?;
-            begin_word(pen, v)
+            let at = put(text, at, b"TWIN");
+            let at = put_word(text, at, u);
+            put_word(text, at, v)
         }
         Violation::Weak(w, v, r) => {
-            pen.push_all(b"WEAK")?;
-            begin_word(pen, w)?;
-            begin_word(pen, v)?;
-            begin_word(pen, r)
+            let at = put(text, at, b"WEAK");
+            let at = put_word(text, at, w);
+            let at = put_word(text, at, v);
+            put_word(text, at, r)
         }
         Violation::Back => {
-            pen.push_all(b"BACK")?;
-            begin_back(pen, steps)
+            let at = put(text, at, b"BACK");
+            put_back(text, at, steps)
         }
         Violation::Round(location, _) => {
-            pen.push_all(b"ROUND")?;
-            begin_word(pen, u16::from(location))?;
-            pen.push(b':')?;
-            begin_steps(pen, steps)
+            let at = put(text, at, b"ROUND");
+            let at = put_word(text, at, u16::from(location));
+            let at = put(text, at, b":");
+            put_steps(text, at, steps)
         }
         Violation::Whole(_) => {
-            pen.push_all(b"WHOLE")?;
-            begin_starts(pen, steps)
+            let at = put(text, at, b"WHOLE");
+            put_starts(text, at, steps)
         }
     }
 }

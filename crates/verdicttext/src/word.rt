@@ -1,14 +1,14 @@
 //! A number as one word.
 ghost use Rattle.std.specs.Prelude.{decimal};
 ghost use Rattle.verdicttext.specs.Text.{marked, space};
-ghost use Rattle.writing.specs.Pushes.{Begins};
+ghost use Rattle.writing.specs.Writes.{Puts};
 
-use writing::pen::{Full, Pen};
+use writing::put::{put, put_number};
 
 // The number, after a space.
-pub(crate) fn begin_word<const N: usize>(pen: &mut Pen<N>, n: u16) -> Result<(), Full>
-    ensures { Begins N (marked space (decimal n)) pen.old pen.new result }
+pub(crate) fn put_word(text: &mut [u8], at: usize, n: u16) -> usize
+    ensures { Puts (marked space (decimal n)) at text.old text.new result }
 {
-    pen.push(b' ')?;
-    pen.number(usize::from(n))
+    let at = put(text, at, b" ");
+    put_number(text, at, usize::from(n))
 }
