@@ -114,14 +114,14 @@ def function_at(path, line):
 
 def first_error(crate, said):
     """The place of the first error, its function and its text. Of a clause or of code the kit names the line; of a proof
-    by hand the file, which lies in a folder for the function."""
+    by hand the file, which lies in a folder for the function; a file of lemmas lies in none, and is named itself."""
     found = re.search(r"(src/[\w/]+\.rt):(\d+):\d+: (.*)", said)
     if found:
         path, line = found.group(1), int(found.group(2))
         return f"{path}:{line}", function_at(CRATES / crate / path, line), found.group(3)
-    found = re.search(r"\./(proofs/([\w/]+)/\w+\.antt:\d+):\d+: (?:error: )?(.*)", said)
+    found = re.search(r"\./(proofs/((?:\w+/)*)(\w+)\.antt:\d+):\d+: (?:error: )?(.*)", said)
     if found:
-        return found.group(1), found.group(2).split("/")[-1], found.group(3)
+        return found.group(1), (found.group(2).strip("/") or found.group(3)).split("/")[-1], found.group(4)
     return "", "", "no error was shown"
 
 
