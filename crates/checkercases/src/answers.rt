@@ -13,7 +13,7 @@ use std::alloc::{AllocError, Global};
 use verdicts::step::Step;
 use verdicts::verdict::Verdict;
 use verdicts::violation::Violation;
-use verdicttext::line::VerdictLine;
+use verdicttext::line::{LONGEST_LINE, write_line};
 
 pub(crate) const MODELS: [ModelName; 5] = [
     ModelName::Rc20,
@@ -113,7 +113,9 @@ pub(crate) fn line<E: Execution>(
     order: &[u16],
     steps: &[Step],
 ) -> Result<String, AllocError> {
-    VerdictLine::new(model, run, answer, order, steps).to_string(heap)
+    let mut text = [0; LONGEST_LINE];
+    let count = write_line(model, run, answer, order, steps, &mut text).unwrap_or(0);
+    String::from_utf8_lossy(heap, &text[..count.min(LONGEST_LINE)])
 }
 
 // The run checked under the model.

@@ -1,7 +1,6 @@
 // The text of logs, character by character.
 use crate::bytes::{READ_OF_511, from_hex, writes};
-use runtext::run::LogText;
-use std::alloc::Global;
+use runtext::run::{LONGEST_RUN, write_log};
 use std::process::Abort;
 use std::test::Fail;
 
@@ -35,34 +34,51 @@ T7 W rel L10
 12 events
 ";
 
-fn has_text(rt: &impl Abort, heap: Global, log: &[u8], expected: &str) -> Result<(), Fail> {
-    let text = LogText::new(log).to_string(heap)?;
-    assert_eq!(rt; text.as_str(), expected);
+// Where there is room for so many characters.
+fn has_text_in(rt: &impl Abort, log: &[u8], room: usize, expected: &[u8]) -> Result<(), Fail> {
+    let mut text = [b'.'; 256];
+    let written = write_log(log, &mut text[..room]);
+    if room < expected.len() {
+        assert!(rt; written.is_err());
+        assert_eq!(rt; &text, &[b'.'; 256]);
+        return Ok(());
+    }
+    assert_eq!(rt; written.ok(), Some(expected.len()));
+    assert_eq!(rt; &text[..expected.len()], expected);
+    assert!(rt; text[expected.len()..].iter().all(|character| *character == b'.'));
+    Ok(())
+}
+
+// With room to spare, with just enough, and with one place too few.
+fn has_text(rt: &impl Abort, log: &[u8], expected: &str) -> Result<(), Fail> {
+    let expected = expected.as_bytes();
+    for room in [256, expected.len(), expected.len() - 1] {
+        has_text_in(rt, log, room, expected)?;
+    }
     Ok(())
 }
 
 #[test]
 fn every_kind_and_mode(rt: HostRuntime) -> Result<(), Fail> {
     let log = from_hex(rt.alloc(), EVERY_KIND)?;
-    has_text(&rt, rt.alloc(), log.as_slice(), ITS_TEXT)
+    has_text(&rt, log.as_slice(), ITS_TEXT)
 }
 
 #[test]
 fn the_longest_run(rt: HostRuntime) -> Result<(), Fail> {
     let log = writes(rt.alloc(), 511, READ_OF_511)?;
-    let text = LogText::new(log.as_slice()).to_string(rt.alloc())?;
-    assert_eq!(rt; text.as_str().lines().count(), 513);
-    assert!(rt;
-        text.as_str()
-            .ends_with("T1 W rlx L1\nT1 R rlx L1 from 511\n512 events\n")
-    );
+    let mut text = [b'.'; LONGEST_RUN];
+    let count = write_log(log.as_slice(), &mut text).unwrap_or(0);
+    let text = &text[..count.min(LONGEST_RUN)];
+    assert_eq!(rt; text.iter().filter(|character| **character == b'\n').count(), 513);
+    assert!(rt; text.ends_with(b"T1 W rlx L1\nT1 R rlx L1 from 511\n512 events\n"));
     Ok(())
 }
 
 #[test]
 fn no_events_and_no_log(rt: HostRuntime) -> Result<(), Fail> {
-    has_text(&rt, rt.alloc(), b"\x04\x00\x02\x00\x00\x00", "0 events\n")?;
-    has_text(&rt, rt.alloc(), b"", "log refused 10 0\n")
+    has_text(&rt, b"\x04\x00\x02\x00\x00\x00", "0 events\n")?;
+    has_text(&rt, b"", "log refused 10 0\n")
 }
 
 // A number of writes, the bytes that follow them, and the text of all that.
@@ -80,7 +96,7 @@ const REFUSED: [(usize, &[u8], &str); 3] = [
 fn each_refusal(rt: HostRuntime) -> Result<(), Fail> {
     for (n, tail, expected) in REFUSED {
         let log = writes(rt.alloc(), n, tail)?;
-        has_text(&rt, rt.alloc(), log.as_slice(), expected)?;
+        has_text(&rt, log.as_slice(), expected)?;
     }
     Ok(())
 }

@@ -7,5 +7,4 @@ pub mod ViolationRoom
 pub mod Longest
 pub mod Lines
 pub mod AllLines
-pub mod RefusalRoom
 pub mod Printed

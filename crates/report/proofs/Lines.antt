@@ -20,16 +20,15 @@ use Rattle.verdicts.specs.declared.step.Step.{Step}
 use Rattle.checker.specs.Promise.{Promise, new_order, new_steps}
 use Rattle.checker.specs.declared.checked.Checked.{Checked}
 use Rattle.verdicttext.specs.Text.{line_text}
-use Rattle.writing.specs.Pushes.{Begins}
-use Rattle.writing.specs.declared.pen.Full.{Full}
+use Rattle.writing.specs.declared.put.Full.{Full}
 use Rattle.report.specs.Longest.{longest_line, longest_report}
-use Rattle.report.specs.Report.{new_memory, new_answers, LineBehind}
+use Rattle.report.specs.Report.{Begins, new_memory, new_answers, LineBehind}
 use Rattle.report.proofs.Longest.{line_fits}
 
 -- what finds room is written
 pub written : (n : ℕ) (t old new : List ℕ) (r : Result (Unit {0}) Full) → length old + length t ≤ n → Begins n t old new r → IsOk r × (new ≡ old ++ t)
 written n t old new (Ok u) room began = (refl, began)
-written n t old new (Err x) room began = absurd (omega (arith, began.0, room))
+written n t old new (Err x) room began = absurd (omega (arith, began, room))
 
 -- the record obeys the calls that record the run
 obeyed : (es : List Event) → Records es → (memory_now others_now : List RawEvent) (answers_now : List Answer)

@@ -10,12 +10,11 @@ use Rattle.runlog.specs.Opening.{Opens}
 use Rattle.runlog.specs.Spelling.{spelling}
 use Rattle.runlog.specs.declared.fault.LogFault.{LogFault}
 use Rattle.runtext.specs.Text.{refusal_text}
-use Rattle.writing.specs.Pushes.{Begins}
-use Rattle.writing.specs.declared.pen.Full.{Full}
+use Rattle.writing.specs.declared.put.Full.{Full}
 use Rattle.report.specs.Longest.{longest_report}
-use Rattle.report.specs.Report.{IsPrinted, refused}
+use Rattle.report.specs.Report.{Begins, IsPrinted, refused}
 use Rattle.report.proofs.Lines.{written}
-use Rattle.report.proofs.RefusalRoom.{refusal_fits}
+use Rattle.runtext.proofs.RefusalRoom.{refusal_fits}
 
 pub refusal_printed :
     (s : List ℕ) (f : LogFault) (old new : List ℕ) (r : Result (Unit {0}) Full) → FirstFault s f → old ≡ [] → Begins longest_report (refusal_text f) old new r

@@ -1,5 +1,5 @@
 -- What the program prints of a log.
-use Rattle.std.specs.Prelude.{◌≡◌, ℕ, replicate, ◌+◌, ◌≤◌, ◌<◌, ◌++◌, List, [], ◌∷◌, codes, drop, length, Ok, Err, Result}
+use Rattle.std.specs.Prelude.{◌≡◌, ℕ, replicate, ◌+◌, ◌≤◌, ◌<◌, ◌++◌, List, [], ◌∷◌, codes, drop, length, MatchResult, Result}
 use Rattle.std.specs.List.{flat_map}
 use Rattle.events.specs.Limits.{max_events}
 use Rattle.events.specs.Relations.{Rel}
@@ -21,7 +21,8 @@ use Rattle.runlog.specs.Spelling.{spelling}
 use Rattle.runlog.specs.declared.fault.LogFault.{LogFault}
 use Rattle.runtext.specs.Text.{refusal_text}
 use Rattle.verdicttext.specs.Text.{line_text}
-use Rattle.writing.specs.declared.pen.Full.{Full}
+use Rattle.writing.specs.Writes.{Writes}
+use Rattle.writing.specs.declared.put.Full.{Full}
 use Rattle.report.specs.Longest.{longest_line}
 
 -- memory for a record, and places for answers, that nothing was written to yet
@@ -58,11 +59,6 @@ pub data IsPrinted (s : List ℕ) : List ℕ → Type 0 where
   refused : {f : LogFault} → FirstFault s f → IsPrinted s (refusal_text f)
   judged : {es : List Event} {text : List ℕ} → s ≡ spelling es → FullRun es → AreLines es text → IsPrinted s text
 
--- Written into the caller's text where it fits, with every other place as it was; else all is as it was.
-abbrev pub Writes : List ℕ → List ℕ → List ℕ → Result ℕ Full → Type 0
-Writes t old new (Ok n) = (n ≡ length t) × (n ≤ length old) × (new ≡ t ++ drop n old)
-Writes t old new (Err full) = (length old < length t) × (new ≡ old)
-
 -- what is printed of the bytes is written
 abbrev pub Reports : List ℕ → List ℕ → List ℕ → Result ℕ Full → Type 0
 Reports s old new result = (t : List ℕ) × IsPrinted s t × Writes t old new result
@@ -71,3 +67,7 @@ Reports s old new result = (t : List ℕ) × IsPrinted s t × Writes t old new r
 abbrev pub LineBehind : ModelName → Scope → Rel → List Event → List ℕ → List ℕ → Type 0
 LineBehind m scope sw es old new =
     (line : List ℕ) × IsLine m scope sw es line × (new ≡ old ++ line) × (length line ≤ longest_line + 1)
+
+-- A text is behind what was written; refused, where it does not fit, a part of it may be.
+abbrev pub Begins : ℕ → List ℕ → List ℕ → List ℕ → Result (Unit {0}) Full → Type 0
+Begins n t old new result = MatchResult result (λ _. new ≡ old ++ t) (λ _. n < length old + length t)

@@ -4,13 +4,13 @@ ghost use Rattle.runlog.specs.Opening.{run_of};
 ghost use Rattle.runtext.specs.Text.{refusal_text};
 ghost use Rattle.sessions.specs.Recording.{recording, Records};
 ghost use Rattle.verdicttext.specs.Text.{line_text};
-ghost use Rattle.writing.specs.Pushes.{Begins};
 ghost use Rattle.report.specs.Longest.{longest_line, longest_report};
-ghost use Rattle.report.specs.Report.{LineBehind, AreLines, IsPrinted, Reports};
+ghost use Rattle.report.specs.Report.{Begins, LineBehind, AreLines, IsPrinted, Reports};
 
 use checker::check::check;
 use events::limits::MAX_EVENTS;
 use events::raw::RawEvent;
+use events::text::write_refused;
 use executions::fault::CheckerFault;
 use models::model::{Model, Ra, Rc20, Relaxed, Sra, Wra};
 use models::name::ModelName;
@@ -23,9 +23,9 @@ use sessions::calls::{Answer, Call};
 use sessions::recording::{MOST_CALLS, recording};
 use verdicts::step::{Sort, Step};
 use verdicts::verdict::Verdict;
-use verdicttext::line::{LONGEST_LINE, push_line};
-use writing::pen::{Full, Pen};
-use writing::refused::push_refused;
+use verdicttext::line::{LONGEST_LINE, write_line as write_verdict};
+use writing::pen::Pen;
+use writing::put::Full;
 
 /// No text that is printed of a log is longer: a line and its end for each of the five models.
 pub const LONGEST_REPORT: usize = 5 * (LONGEST_LINE + 1);
@@ -55,7 +55,9 @@ fn begin_line(
 ) -> Result<(), Full>
     ensures { Begins LONGEST_REPORT (line_text model (run_of run.now) answer order.now steps.now ++ codes "\n") text.old text.new result }
 {
-    push_line(text, model, run, answer, order, steps)?;
+    let mut line = [0; LONGEST_REPORT];
+    let count = write_verdict(model, run, answer, order, steps, &mut line)?;
+    text.push_all(&line[..count])?;
     text.push(b'\n')
 }
 
@@ -63,8 +65,10 @@ fn begin_line(
 fn begin_refusal(text: &mut Pen<LONGEST_REPORT>, fault: LogFault) -> Result<(), Full>
     ensures { Begins LONGEST_REPORT (refusal_text fault) text.old text.new result }
 {
+    let mut refusal = [0; LONGEST_REPORT];
+    let count = write_refused(&fault, &mut refusal)?;
     text.push_all(b"log ")?;
-    push_refused(text, &fault)?;
+    text.push_all(&refusal[..count])?;
     text.push(b'\n')
 }
 

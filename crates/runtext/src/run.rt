@@ -1,79 +1,80 @@
 //! A run as text, a line an event and then how many there are; and so the run of a log.
-ghost use Rattle.std.specs.Prelude.{◌≡◌, Some};
-ghost use Rattle.runtext.specs.Text.{run_text, Tells};
+ghost use Rattle.std.specs.Prelude.{◌≤◌, length, IsOk};
+ghost use Rattle.runlog.specs.Reading.{reading};
+ghost use Rattle.runtext.specs.Longest.{longest_run};
+ghost use Rattle.runtext.specs.Text.{line_text, log_text, refusal_text, run_text, Tells};
+ghost use Rattle.writing.specs.Writes.{Puts, Writes};
 
+use events::event::Event;
+use events::limits::MAX_EVENTS;
+use events::text::{put_event, put_refused};
 use executions::execution::Execution;
+use runlog::fault::LogFault;
 use runlog::log::Log;
-use std::fmt;
-use std::marker::Model;
+use writing::put::{Full, put, put_number};
 
-/// The text of a run. A contract sees the characters.
-#[derive(Drop)]
-pub struct RunText<'a, E: Execution> {
-    run: &'a E,
+/// No text of a run is longer: a line of 25 characters for each of 512 events, and eleven for how many there are.
+pub const LONGEST_RUN: usize = 25 * MAX_EVENTS + 11;
+
+// A line of the run.
+fn put_event_line(text: &mut [u8], at: usize, event: &Event) -> usize
+    ensures { Puts (line_text event.now) at text.old text.new result }
+{
+    let at = put_event(text, at, event);
+    put(text, at, b"\n")
 }
 
-impl<'a, E: Execution> Model for RunText<'a, E> {
-    ghost use Rattle.std.specs.Prelude.{ℕ, List};
-    ghost use Rattle.runtext.specs.Text.{run_text};
-
-    ghost Value = { List ℕ };
-
-    ghost view = { λ t. run_text (E.Execution.events t.run.now) };
-}
-
-impl<'a, E: Execution> RunText<'a, E> {
-    /// The text of this run.
-    pub fn new(run: &'a E) -> RunText<'a, E>
-        ensures { result ≡ run_text (E.Execution.events run.now) }
-    {
-        RunText { run }
+// The lines of the run, and how many there are.
+fn put_run<E: Execution>(text: &mut [u8], place: usize, run: &E) -> usize
+    ensures { Puts (run_text (E.Execution.events run.now)) place text.old text.new result }
+{
+    let mut at = place;
+    for event in run.iter() {
+        at = put_event_line(text, at, &event);
     }
+    let at = put_number(text, at, run.count());
+    put(text, at, b" events\n")
 }
 
-impl<'a, E: Execution> fmt::Display for RunText<'a, E> {
-    ghost output = { λ t. Some t };
-
-    fn fmt<W: fmt::Write>(&self, f: &mut fmt::Formatter<W>) -> fmt::Result {
-        for event in self.run.iter() {
-            writeln!(f, "{event}")?;
-        }
-        writeln!(f, "{} events", self.run.count())
+/// Writes the text of a run at the front of this one, and answers how many characters that are. Every other place of the text is as
+/// it was. Where it does not fit it is refused, and all is as it was; a text of `LONGEST_RUN` places always suffices.
+pub fn write_run<E: Execution>(run: &E, text: &mut [u8]) -> Result<usize, Full>
+    ensures text { Writes (run_text (E.Execution.events run.now)) text.old text.new result }
+    ensures suffices { longest_run ≤ length text.old → IsOk result }
+{
+    if put_run(&mut [], 0, run) > text.len() {
+        return Err(Full);
     }
+    Ok(put_run(text, 0, run))
 }
 
-/// The text of a log: its run, or why it is refused. A contract sees the characters.
-#[derive(Drop)]
-pub struct LogText<'a> {
-    bytes: &'a [u8],
+// The line of a refusal.
+fn put_refusal(text: &mut [u8], at: usize, fault: LogFault) -> usize
+    ensures { Puts (refusal_text fault) at text.old text.new result }
+{
+    let at = put(text, at, b"log ");
+    let at = put_refused(text, at, &fault);
+    put(text, at, b"\n")
 }
 
-impl<'a> Model for LogText<'a> {
-    ghost use Rattle.std.specs.Prelude.{ℕ, List};
-    ghost use Rattle.runlog.specs.Reading.{reading};
-    ghost use Rattle.runtext.specs.Text.{log_text};
-
-    ghost Value = { List ℕ };
-
-    ghost view = { λ t. log_text (reading t.bytes.now) };
-}
-
-impl<'a> LogText<'a> {
-    /// The text of these bytes.
-    pub fn new(bytes: &'a [u8]) -> LogText<'a>
-        ensures { Tells bytes.now result }
-    {
-        LogText { bytes }
+/// Writes the line of a log's refusal, as `write_run` writes a run.
+pub fn write_refusal(fault: LogFault, text: &mut [u8]) -> Result<usize, Full>
+    ensures { Writes (refusal_text fault) text.old text.new result }
+{
+    if put_refusal(&mut [], 0, fault) > text.len() {
+        return Err(Full);
     }
+    Ok(put_refusal(text, 0, fault))
 }
 
-impl<'a> fmt::Display for LogText<'a> {
-    ghost output = { λ t. Some t };
-
-    fn fmt<W: fmt::Write>(&self, f: &mut fmt::Formatter<W>) -> fmt::Result {
-        match Log::try_from(self.bytes) {
-            Ok(log) => write!(f, "{}", RunText::new(&log)),
-            Err(fault) => writeln!(f, "log {fault}"),
-        }
+/// Writes the text of a log, its run or why it is refused, as `write_run` writes a run: `LONGEST_RUN` places suffice here too.
+pub fn write_log(bytes: &[u8], text: &mut [u8]) -> Result<usize, Full>
+    ensures text { Writes (log_text (reading bytes.now)) text.old text.new result }
+    ensures tells { Tells bytes.now (log_text (reading bytes.now)) }
+    ensures suffices { longest_run ≤ length text.old → IsOk result }
+{
+    match Log::try_from(bytes) {
+        Ok(log) => write_run(&log, text),
+        Err(fault) => write_refusal(fault, text),
     }
 }

@@ -6,17 +6,21 @@ use confirm::by_number::confirm;
 use confirm::finding::Finding;
 use events::limits::MAX_EVENTS;
 use events::raw::RawEvent;
+use events::refusal::Refusal;
+use events::text::write_refused;
 use executions::execution::Execution;
 use judge::by_number::judge;
 use models::name::ModelName;
 use recorder::opened::OpenRecord;
 use recorder::sealed::SealedRecord;
-use runtext::run::RunText;
+use runtext::run::{LONGEST_RUN, write_run};
 use std::io;
-use std::io::Print;
+use std::io::{ErrorKind, Print};
+use std::str;
 use verdicts::step::{Sort, Step};
 use verdicts::verdict::Verdict;
-use verdicttext::line::VerdictLine;
+use verdicttext::line::{LONGEST_LINE, write_line};
+use writing::put::Full;
 
 // Kinds and modes by their numbers.
 const READ: u8 = 1;
@@ -44,6 +48,22 @@ const NO_STEP: Step = Step {
     sort: Sort::Po,
 };
 
+// Prints what a call wrote at the front of this text.
+fn print_written(rt: &impl Print, text: &[u8], written: Result<usize, Full>) -> io::Result<()> {
+    let count = written.map_err(|_| ErrorKind::InvalidData)?;
+    let front = text.get(..count).unwrap_or(text);
+    let characters = str::from_utf8(front).map_err(|_| ErrorKind::InvalidData)?;
+    print!(rt; "{characters}")
+}
+
+// A line, that says why a call was refused.
+fn print_refusal<R: Refusal>(rt: &impl Print, refusal: &R) -> io::Result<()> {
+    let mut text = [0; 64];
+    let written = write_refused(refusal, &mut text);
+    print_written(rt, &text, written)?;
+    println!(rt; "")
+}
+
 fn note(
     rt: &impl Print,
     open_record: &mut OpenRecord,
@@ -53,7 +73,7 @@ fn note(
     print!(rt; "note thread {thread}, kind {kind}, mode {mode}, location {location}: ")?;
     match open_record.note(memory, thread, kind, mode, location) {
         Ok(number) => println!(rt; "event {number}"),
-        Err(fault) => println!(rt; "{fault}"),
+        Err(fault) => print_refusal(rt, &fault),
     }
 }
 
@@ -67,7 +87,7 @@ fn link(
     print!(rt; "link event {event} from {writer}: ")?;
     match open_record.link(memory, event, writer) {
         Ok(()) => println!(rt; "done"),
-        Err(fault) => println!(rt; "{fault}"),
+        Err(fault) => print_refusal(rt, &fault),
     }
 }
 
@@ -75,7 +95,7 @@ fn retract(rt: &impl Print, open_record: &mut OpenRecord, memory: &[RawEvent]) -
     print!(rt; "take the last event back: ")?;
     match open_record.retract(memory) {
         Ok(()) => println!(rt; "done"),
-        Err(fault) => println!(rt; "{fault}"),
+        Err(fault) => print_refusal(rt, &fault),
     }
 }
 
@@ -87,7 +107,10 @@ fn judge_under_number<E: Execution>(rt: &impl Print, number: u8, run: &E) -> io:
     let mut order = [0; MAX_EVENTS];
     let mut steps = [NO_STEP; MAX_EVENTS];
     let answer = judge(number, run, &mut order, &mut steps);
-    println!(rt; "{}", VerdictLine::new(model, run, answer, &order, &steps))?;
+    let mut text = [0; LONGEST_LINE];
+    let written = write_line(model, run, answer, &order, &steps, &mut text);
+    print_written(rt, &text, written)?;
+    println!(rt; "")?;
     if let Ok(Verdict::Consistent(stores)) = answer {
         if confirm(number, run, &order[..stores]) == Ok(Finding::Passes) {
             return println!(rt; "confirmed");
@@ -104,10 +127,14 @@ fn seal_and_judge(
 ) -> io::Result<OpenRecord> {
     let mut sealed = SealedRecord::empty();
     if let Err(refused) = open_record.seal(memory, &mut sealed) {
-        println!(rt; "seal: {}", refused.fault)?;
+        print!(rt; "seal: ")?;
+        print_refusal(rt, &refused.fault)?;
         return Ok(refused.record);
     }
-    print!(rt; "seal: done\n{}", RunText::new(&sealed))?;
+    println!(rt; "seal: done")?;
+    let mut text = [0; LONGEST_RUN];
+    let written = write_run(&sealed, &mut text);
+    print_written(rt, &text, written)?;
     for number in 1..=5 {
         judge_under_number(rt, number, &sealed)?;
     }

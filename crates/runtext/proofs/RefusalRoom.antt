@@ -6,7 +6,7 @@ use Rattle.runlog.specs.FirstFault.{FirstFault, shape, trailing, too_many, field
 use Rattle.runlog.specs.declared.fault.LogFault.{LogFault}
 use Rattle.runlog.specs.declared.fault.LogFault.TheVariants.{Shape, BadEvent, TooMany}
 use Rattle.runtext.specs.Text.{refusal_text}
-use Rattle.report.specs.Longest.{longest_report}
+use Rattle.runtext.specs.Longest.{longest_run}
 
 -- nothing after the end record of the longest log is looked at
 place_low : (s : List ℕ) (f : LogFault) → FirstFault s f → (fault_code f).1 < 10000
@@ -21,7 +21,7 @@ number_low (Shape p) = omega arith
 number_low (BadEvent p) = omega arith
 number_low (TooMany p) = omega arith
 
-pub refusal_fits : (s : List ℕ) (f : LogFault) → FirstFault s f → length (refusal_text f) ≤ longest_report
+pub refusal_fits : (s : List ℕ) (f : LogFault) → FirstFault s f → length (refusal_text f) ≤ longest_run
 refusal_fits s f first =
     let low = number_low f in
     let near = place_low s f first in
