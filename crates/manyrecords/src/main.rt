@@ -71,10 +71,10 @@ fn until_reopened(
             None => break,
             Some(Line::Open) => return Ok(Sealed::Over(End::Open)),
             Some(Line::Reopen) => {
-                println!(rt; "{}", Answer::Done)?;
+                Answer::Done.print(rt)?;
                 return Ok(Sealed::Reopened(sealed.reopen()));
             }
-            Some(line) => println!(rt; "{}", sealed_answer(&sealed, line))?,
+            Some(line) => sealed_answer(&sealed, line).print(rt)?,
         }
     }
     Ok(Sealed::Over(End::Input))
@@ -90,11 +90,11 @@ fn seal(
     let mut sealed = SealedRecord::empty();
     match open_record.seal(memory, &mut sealed) {
         Ok(()) => {
-            println!(rt; "{}", Answer::Done)?;
+            Answer::Done.print(rt)?;
             until_reopened(rt, lines, sealed)
         }
         Err(refused) => {
-            println!(rt; "{}", Answer::RecordRefused(refused.fault))?;
+            Answer::RecordRefused(refused.fault).print(rt)?;
             Ok(Sealed::Reopened(refused.record))
         }
     }
@@ -145,7 +145,7 @@ fn carry_out(rt: &impl Print, lines: &mut Lines, memories: &mut Memories) -> io:
                     Sealed::Over(end) => return Ok(end),
                 }
             }
-            Some(line) => println!(rt; "{}", open_answer(&mut open_record, memories, line))?,
+            Some(line) => open_answer(&mut open_record, memories, line).print(rt)?,
         }
     }
     Ok(End::Input)

@@ -159,7 +159,11 @@ mod tests {
         }
         assert_eq!(rt; written.ok(), Some(expected.len()));
         assert_eq!(rt; &text[..expected.len()], expected);
-        assert!(rt; text[expected.len()..].iter().all(|character| *character == b'.'));
+        assert!(rt;
+            text[expected.len()..]
+                .iter()
+                .all(|character| *character == b'.')
+        );
         Ok(())
     }
 
@@ -215,7 +219,11 @@ mod tests {
     #[test]
     fn refusals(rt: HostRuntime) -> Result<(), Fail> {
         for (model, fault, expected) in [
-            (ModelName::Sra, CheckerFault::HasUpdates(2), "SRA refused 24 2"),
+            (
+                ModelName::Sra,
+                CheckerFault::HasUpdates(2),
+                "SRA refused 24 2",
+            ),
             (ModelName::Ra, CheckerFault::ShortBuffer, "RA refused 9 0"),
         ] {
             is_written(&rt, model, Err(fault), expected)?;
