@@ -5,9 +5,8 @@ use events::refusal::{Layer, Refusal};
 use events::text::{write_event, write_refused};
 use executions::fault::CheckerFault;
 use recorder::fault::RecordFault;
-use std::io;
 use std::io::{ErrorKind, Print};
-use std::str;
+use std::{io, str};
 use writing::put::Full;
 
 #[derive(Clone, Copy)]
