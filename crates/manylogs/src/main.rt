@@ -9,9 +9,8 @@ use models::name::ModelName;
 use runlog::fault::LogFault;
 use runlog::log::Log;
 use runtext::run::{LONGEST_RUN, write_refusal};
-use std::io;
 use std::io::{BufRead, BufReader, ErrorKind, Print};
-use std::str;
+use std::{io, str};
 use verdicts::step::{Sort, Step};
 use verdicttext::line::{LONGEST_LINE, write_line};
 
