@@ -37,6 +37,7 @@ T7 W rel L10
 // Where there is room for so many characters.
 fn has_text_in(rt: &impl Abort, log: &[u8], room: usize, expected: &[u8]) -> Result<(), Fail> {
     let mut text = [b'.'; 256];
+    let room = room.min(256);
     let written = write_log(log, &mut text[..room]);
     if room < expected.len() {
         assert!(rt; written.is_err());
@@ -44,15 +45,16 @@ fn has_text_in(rt: &impl Abort, log: &[u8], room: usize, expected: &[u8]) -> Res
         return Ok(());
     }
     assert_eq!(rt; written.ok(), Some(expected.len()));
-    assert_eq!(rt; &text[..expected.len()], expected);
-    assert!(rt; text[expected.len()..].iter().all(|character| *character == b'.'));
+    let (front, rest) = text.split_at(expected.len().min(256));
+    assert_eq!(rt; front, expected);
+    assert!(rt; rest.iter().all(|character| *character == b'.'));
     Ok(())
 }
 
 // With room to spare, with just enough, and with one place too few.
 fn has_text(rt: &impl Abort, log: &[u8], expected: &str) -> Result<(), Fail> {
     let expected = expected.as_bytes();
-    for room in [256, expected.len(), expected.len() - 1] {
+    for room in [256, expected.len(), expected.len().saturating_sub(1)] {
         has_text_in(rt, log, room, expected)?;
     }
     Ok(())
@@ -70,7 +72,10 @@ fn the_longest_run(rt: HostRuntime) -> Result<(), Fail> {
     let mut text = [b'.'; LONGEST_RUN];
     let count = write_log(log.as_slice(), &mut text).unwrap_or(0);
     let text = &text[..count.min(LONGEST_RUN)];
-    assert_eq!(rt; text.iter().filter(|character| **character == b'\n').count(), 513);
+    assert_eq!(rt;
+        text.iter().filter(|character| **character == b'\n').count(),
+        513
+    );
     assert!(rt; text.ends_with(b"T1 W rlx L1\nT1 R rlx L1 from 511\n512 events\n"));
     Ok(())
 }

@@ -59,7 +59,10 @@ pub(crate) fn check_group(rt: &impl Abort, heap: Global, group: &str) -> Result<
             reads_from[2],
             empty[0],
         ];
-        assert!(rt; by_number(&sealed, order.as_slice()) == named, "{run}: {row}");
+        assert!(rt;
+            by_number(&sealed, order.as_slice()) == named,
+            "{run}: {row}"
+        );
     }
     Ok(())
 }

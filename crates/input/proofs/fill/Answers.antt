@@ -50,11 +50,12 @@ kept_on i k n xs ys old within fits long same before =
     drop-put_mid_kept i k n xs ys within fits long same ∙ sym (drop-drop n i xs) ∙ ap (drop n) before ∙ drop-drop n i old
 
 pub loop-n-preserved : goal.loop-n-preserved
-loop-n-preserved g c =
-    (search rules,
-    search (rules, consumed_more),
-    kept_on c.loop-n.n _ c.in_ok-got.got c.loop-n.buffer c.read_once.new.rest c.args.buffer.now
-    (search rules) (search rules) (search rules) (search rules) (search rules))
+loop-n-preserved g c = (
+  search rules,
+  search (rules, consumed_more),
+  kept_on c.loop-n.n _ c.in_ok-got.got c.loop-n.buffer c.read_once.new.rest c.args.buffer.now
+      (search rules) (search rules) (search rules) (search rules) (search rules),
+)
 
 -- what a failed read leaves
 unread : (i k : ℕ) (xs ys old : List ℕ) → ys ≡ mid_of i k xs → drop i xs ≡ drop i old → drop i (put_mid i k xs ys) ≡ drop i old
