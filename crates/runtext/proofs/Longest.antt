@@ -1,5 +1,5 @@
 -- No text of a run is longer than the longest.
-use Rattle.std.proofs.Common.{◌≡◌, ℕ, suc, true, false, ◌+◌, ◌*◌, ◌<◌, ◌≤◌, Bool, List, [], ◌∷◌, ◌++◌, codes, length, ⊎_elim, decimal, get_or, Some, None, Ok, Err, IsOk, Result, refl, length-append, arith, subst, ap}
+use Rattle.std.proofs.Common.{◌≡◌, ℕ, suc, true, false, ◌*◌, ◌<◌, ◌≤◌, Bool, List, [], ◌∷◌, ◌++◌, codes, length, ⊎_elim, decimal, Some, None, Ok, Err, IsOk, Result, refl, length-append, arith}
 use Rattle.std.specs.Prelude.{Option, ◌==◌, if◌then◌else◌}
 use Rattle.std.specs.List.{All}
 use Rattle.std.proofs.lemmas.Bool.{cases_Bool}
@@ -8,9 +8,8 @@ use Rattle.std.proofs.lemmas.Fmt.{length-decimal-le}
 use Rattle.std.proofs.lemmas.List.Elements.{All-head, All-tail, All-from_get_or}
 use Rattle.events.specs.Events.{is_access, is_load, writer_of}
 use Rattle.events.specs.Limits.{max_events}
-use Rattle.events.specs.Raw.{Legal, InLocations}
 use Rattle.events.specs.Run.{at, no_event, Within, FullRun}
-use Rattle.events.specs.Text.{kind_letter, mode_word, place_words, spaced, event_text}
+use Rattle.events.specs.Text.{kind_letter, mode_word, place_words, spaced}
 use Rattle.events.specs.declared.event.Event.{Event}
 use Rattle.events.specs.declared.event.Kind.{Kind}
 use Rattle.events.specs.declared.event.Kind.TheVariants.{Read, Write, Update, Fence}

@@ -1,13 +1,11 @@
 -- What the chain of the turned steps gives.
-use Rattle.std.proofs.Common.{◌≡◌, ℕ, suc, List, ◌∷◌, ◌++◌, map, take, drop, length, get_or, false, None, Some, Option, Bor, Iter, sym, ap, refl, ◌∙◌}
+use Rattle.std.proofs.Common.{◌≡◌, ℕ, List, ◌++◌, map, false, None, Option, Bor, Iter, sym, ap, refl, ◌∙◌}
 use Rattle.std.specs.Iterator.{Yields}
 use Rattle.std.specs.Iterator.Adapters.{chain_steps}
 use Rattle.std.specs.declared.iter.Chain.{Chain}
 use Rattle.std.proofs.iter.Yields.{fronts}
-use Rattle.std.proofs.Math.Seq.{split_at}
-use Rattle.std.proofs.lemmas.List.{map-append}
 use Rattle.std.proofs.lemmas.Iterator.{YieldsList-from_slice}
-use Rattle.std.proofs.lemmas.Iterator.Consumers.{YieldsList-from_chain, YieldsList-at, YieldsList-so_far, YieldsList-turn, YieldsList-end}
+use Rattle.std.proofs.lemmas.Iterator.Consumers.{YieldsList-from_chain, YieldsList-at, YieldsList-end}
 use Rattle.std.proofs.lemmas.Simd.{map-map}
 use Rattle.verdicts.specs.declared.step.Step.{Step}
 

@@ -1,5 +1,4 @@
-use Rattle.std.proofs.Common.{◌++◌, ◌∷◌, Ok, Err, codes, take, Result, ap, sym, ◌∙◌}
-use Rattle.std.specs.List.{join_with_byte}
+use Rattle.std.proofs.Common.{Ok, take, Result, ap, sym, ◌∙◌}
 use Rattle.executions.specs.declared.fault.CheckerFault.{CheckerFault}
 use Rattle.verdicts.specs.declared.verdict.Verdict.{Verdict}
 use Rattle.verdicttext.specs.Text.{line_text}

@@ -1,4 +1,4 @@
-use Rattle.std.proofs.Common.{◌≡◌, ◌++◌, ◌∷◌, ap, decimal, codes, arith}
+use Rattle.std.proofs.Common.{◌≡◌, ap, decimal, arith}
 use Rattle.std.proofs.lemmas.Grind.{common_steps}
 use Rattle.verdicttext.specs.Store.{first_text, store_text}
 use Rattle.verdicttext.specs.Text.{less, marked}

@@ -1,9 +1,8 @@
-use Rattle.std.proofs.Common.{List, ◌++◌, codes, decimal, ap, sym, ◌∙◌, map, ℕ}
+use Rattle.std.proofs.Common.{List, codes, decimal, ap, sym, ◌∙◌, ℕ}
 use Rattle.std.specs.List.{join_with_byte}
 use Rattle.verdicts.specs.declared.violation.Violation.{Violation}
 use Rattle.verdicts.specs.declared.step.Step.{Step}
-use Rattle.verdicttext.specs.Text.{back_words, comma, cycle_words, marked, space, step_text, violation_words}
-use Rattle.verdicttext.specs.Turns.{turned}
+use Rattle.verdicttext.specs.Text.{back_words, cycle_words, marked, space, violation_words}
 use Rattle.verdicttext.proofs.Words.{joined_from_first}
 use Rattle.writing.proofs.Laid.{puts_then, puts_as}
 use Rattle.verdicttext.proofs.violation.put_violation.Goals as goal
