@@ -143,7 +143,7 @@ fn write_report(text: &mut Pen<LONGEST_REPORT>, log: &[u8]) -> Result<(), Full>
 /// refused, and all is as it was; a text of `LONGEST_REPORT` places always suffices.
 pub fn report(log: &[u8], text: &mut [u8]) -> Result<usize, Full>
     ensures text { Reports log.now text.old text.new result }
-    ensures suffices { longest_report ≤ length text.old → IsOk result }
+    ensures suffices { LONGEST_REPORT ≤ length text.old → IsOk result }
 {
     let mut pen = Pen::new();
     write_report(&mut pen, log)?;

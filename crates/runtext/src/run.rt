@@ -1,7 +1,6 @@
 //! A run as text, a line an event and then how many there are; and so the run of a log.
 ghost use Rattle.std.specs.Prelude.{◌≤◌, length, IsOk};
 ghost use Rattle.runlog.specs.Reading.{reading};
-ghost use Rattle.runtext.specs.Longest.{longest_run};
 ghost use Rattle.runtext.specs.Text.{line_text, log_text, refusal_text, run_text, Tells};
 ghost use Rattle.writing.specs.Writes.{Puts, Writes};
 
@@ -40,7 +39,7 @@ fn put_run<E: Execution>(text: &mut [u8], place: usize, run: &E) -> usize
 /// it was. Where it does not fit it is refused, and all is as it was; a text of `LONGEST_RUN` places always suffices.
 pub fn write_run<E: Execution>(run: &E, text: &mut [u8]) -> Result<usize, Full>
     ensures text { Writes (run_text (E.Execution.events run.now)) text.old text.new result }
-    ensures suffices { longest_run ≤ length text.old → IsOk result }
+    ensures suffices { LONGEST_RUN ≤ length text.old → IsOk result }
 {
     if put_run(&mut [], 0, run) > text.len() {
         return Err(Full);
@@ -57,7 +56,8 @@ fn put_refusal(text: &mut [u8], at: usize, fault: LogFault) -> usize
     put(text, at, b"\n")
 }
 
-/// Writes the line of a log's refusal, as `write_run` writes a run.
+/// Writes the line of a log's refusal at the front of this text, and answers how many characters that are. Every other place of the
+/// text is as it was. Where it does not fit it is refused, and all is as it was.
 pub fn write_refusal(fault: LogFault, text: &mut [u8]) -> Result<usize, Full>
     ensures { Writes (refusal_text fault) text.old text.new result }
 {
@@ -71,7 +71,7 @@ pub fn write_refusal(fault: LogFault, text: &mut [u8]) -> Result<usize, Full>
 pub fn write_log(bytes: &[u8], text: &mut [u8]) -> Result<usize, Full>
     ensures text { Writes (log_text (reading bytes.now)) text.old text.new result }
     ensures tells { Tells bytes.now (log_text (reading bytes.now)) }
-    ensures suffices { longest_run ≤ length text.old → IsOk result }
+    ensures suffices { LONGEST_RUN ≤ length text.old → IsOk result }
 {
     match Log::try_from(bytes) {
         Ok(log) => write_run(&log, text),

@@ -25,7 +25,8 @@ fn first<T>(items: &[T], count: usize) -> &[T]
     items.get(..count).unwrap_or(items)
 }
 
-/// No line of a judge's answer is longer: at most eight characters for each of 512 events, and 64 before them.
+/// What callers hand for a line: eight characters for each of 512 events, and 64 before them. That no line of a judge's answer is longer
+/// is proved where `report` writes them.
 pub const LONGEST_LINE: usize = 8 * 512 + 64;
 
 // The line without its end.
@@ -59,7 +60,7 @@ fn put_line<E: Execution>(
 
 /// Writes the answer of judging a run under a model, over the two buffers as judging left them, at the front of this text, as a line
 /// without its end, and answers how many characters that are. Every other place of the text is as it was. Where the line does not
-/// fit it is refused, and all is as it was; for the answer of a judge a text of `LONGEST_LINE` places always suffices.
+/// fit it is refused, and all is as it was.
 pub fn write_line<E: Execution>(
     model: ModelName,
     run: &E,
