@@ -31,7 +31,7 @@ fn check_sealing(memory: &[RawEvent], count: usize) -> Result<(), RecordFault>
 impl OpenRecord {
     /// Seals the record into the caller's place, which then holds the memory for reading; or hands the record back, and leaves
     /// the place as it is. Even so the place then counts as borrowing the memory: try again with a new one.
-    // A rule of the project: what a caller goes on using is filled where the caller holds it.
+    // What a caller goes on using is filled where the caller holds it, so the sealed record is no part of the answer.
     pub fn seal<'m>(
         self,
         memory: &'m [RawEvent],

@@ -7,7 +7,7 @@ use crate::fault::LogFault;
 use crate::log::Log;
 
 /// Opens the bytes as a log into the caller's place, or says what is wrong first and leaves the place as it is.
-// A rule of the project: what a caller goes on using is filled where the caller holds it. `Log::try_from` gives the value.
+// What a caller goes on using is filled where the caller holds it, so the log is no part of the answer; `Log::try_from` gives it as one.
 pub fn open_log<'a>(bytes: &'a [u8], into: &mut Log<'a>) -> Result<(), LogFault>
     ensures answers { result ≡ answer (reading bytes.now) }
     ensures holds { Holds bytes.entry into.old into.new result }
